@@ -1,5 +1,5 @@
 -- Lines that are written are read as what they say.
-use Rattle.tabled_language.proofs.Common.{[], ◌&&◌, ◌++◌, ◌<◌, ◌^◌, ◌∙◌, ◌∷◌, ◌≡◌, ◌≢◌, ◌≤◌, ◌⊎◌, AllByRecursion, IsSpanSize, IsUtf8, IsUtf8-from_is_utf8, Line, List, NumberRange, Ok, Reading, RecordLine, Rectangle, ShapeLine, SpanLine, and_left, and_right, ap, arith, codes, cond, decimal, eqb, fails, false, gives, inl, inr, length, map, ne_eqb, place, reads_anchor, reads_extent, reads_shape, reads_size, reads_width, refl, says_line, sized, tab_separated, then_reads, whole, ℕ}
+use Rattle.tabled_language.proofs.Common.{[], ◌&&◌, ◌++◌, ◌<◌, ◌^◌, ◌∙◌, ◌∷◌, ◌≡◌, ◌≢◌, ◌≤◌, ◌⊎◌, AllByRecursion, IsSpanSize, IsUtf8, IsUtf8-from_is_utf8, Line, List, NumberRange, Ok, Reading, RecordLine, Rectangle, ShapeLine, SpanLine, and_left, and_right, ap, arith, codes, cond, decimal, eqb, fails, false, gives, inl, inr, length, map, ne_eqb, place, reads_anchor, reads_extent, reads_shape, reads_size, refl, says_line, sized, tab_separated, then_reads, whole, ℕ, Size, if_span, reads_span_size, rectangle}
 use Rattle.std.specs.Str.{chars, is_utf8}
 use Rattle.tabled_language.proofs.BackToNumbers.{decimal-utf8, size_of-decimal}
 use Rattle.tabled_language.proofs.BackToTexts.{texts_of-joined}
@@ -38,14 +38,14 @@ shape_back rows columns r c =
 
 -- the words of an anchor
 abbrev pub span_words : Rectangle → List (List ℕ)
-span_words e = decimal e.0.row ∷ decimal e.0.col ∷ decimal e.1.height ∷ decimal e.1.width ∷ []
+span_words e = decimal e.first.row ∷ decimal e.first.col ∷ decimal e.size.height ∷ decimal e.size.width ∷ []
 
 -- each number of an anchor is one that may be
 pub record IsSmall (e : Rectangle) : Type 0 where
-  pub row : e.0.row < 2 ^ 64
-  pub col : e.0.col < 2 ^ 64
-  pub height : e.1.height < 2 ^ 64
-  pub width : e.1.width < 2 ^ 64
+  pub row : e.first.row < 2 ^ 64
+  pub col : e.first.col < 2 ^ 64
+  pub height : e.size.height < 2 ^ 64
+  pub width : e.size.width < 2 ^ 64
 
 pub not_one : (h w : ℕ) → (1 < h) ⊎ (1 < w) → (eqb h 1 && eqb w 1) ≡ false
 not_one h w (inl more) = and_left (eqb h 1) (eqb w 1) (ne_eqb h 1 (λ one. omega (arith, more, one)))
@@ -66,33 +66,32 @@ extent_read n texts small some =
     let more : eqb n 0 ≡ false = ne_eqb n 0 (λ none. omega (arith, some, none)) in
     reads-next reads_size (λ (m : ℕ). cond (eqb m 0) (fails NumberRange) (gives m)) (decimal n ∷ texts) texts n (size_read n texts small) ∙ rw more refl
 
-width_read : (height n : ℕ) (texts : List (List ℕ)) → n < 2 ^ 64 → 1 ≤ n → (1 < height) ⊎ (1 < n) → (reads_width height).reads (decimal n ∷ texts) ≡ Ok (n, texts)
-width_read height n texts small some merges =
-    reads-next reads_extent (λ (m : ℕ). cond (eqb height 1 && eqb m 1) (fails NumberRange) (gives m)) (decimal n ∷ texts) texts n (extent_read n texts small some) ∙ rw (not_one height n merges) refl
+-- a height and a width of more than one cell
+span_size_read : (size : Size) (texts : List (List ℕ)) → size.height < 2 ^ 64 → size.width < 2 ^ 64 → IsSpanSize size → reads_span_size.reads (decimal size.height ∷ decimal size.width ∷ texts) ≡ Ok (size, texts)
+span_size_read size texts tall wide some =
+    reads-next reads_extent (λ height. then_reads reads_extent (λ width. if_span (sized height width))) (decimal size.height ∷ decimal size.width ∷ texts) (decimal size.width ∷ texts) size.height (extent_read size.height (decimal size.width ∷ texts) tall some.height)
+    ∙ reads-next reads_extent (λ width. if_span (sized size.height width)) (decimal size.width ∷ texts) texts size.width (extent_read size.width texts wide some.width)
+    ∙ rw (not_one size.height size.width some.merges) refl
 
--- what is read after the row, the column and the height of an anchor
-abbrev behind_height : ℕ → ℕ → ℕ → Reading Rectangle
-behind_height row column height = then_reads (reads_width height) (λ width. gives (place row column, sized height width))
-
+-- what is read after the row and the column of an anchor
 abbrev behind_column : ℕ → ℕ → Reading Rectangle
-behind_column row column = then_reads reads_extent (λ height. behind_height row column height)
+behind_column row column = then_reads reads_span_size (λ size. gives (rectangle (place row column) size))
 
 abbrev behind_row : ℕ → Reading Rectangle
 behind_row row = then_reads reads_size (λ column. behind_column row column)
 
-anchor_back : (e : Rectangle) → IsSmall e → IsSpanSize e.1 → whole reads_anchor (span_words e) ≡ Ok e
+anchor_back : (e : Rectangle) → IsSmall e → IsSpanSize e.size → whole reads_anchor (span_words e) ≡ Ok e
 anchor_back e small size =
-    let sizes = decimal e.1.height ∷ decimal e.1.width ∷ [] in
+    let sizes = decimal e.size.height ∷ decimal e.size.width ∷ [] in
     whole-read reads_anchor (span_words e) e
-    (reads-next reads_size behind_row (span_words e) (decimal e.0.col ∷ sizes) e.0.row (size_read e.0.row (decimal e.0.col ∷ sizes) small.row)
-    ∙ reads-next reads_size (λ column. behind_column e.0.row column) (decimal e.0.col ∷ sizes) sizes e.0.col (size_read e.0.col sizes small.col)
-    ∙ reads-next reads_extent (λ height. behind_height e.0.row e.0.col height) sizes (decimal e.1.width ∷ []) e.1.height (extent_read e.1.height (decimal e.1.width ∷ []) small.height size.height)
-    ∙ reads-next (reads_width e.1.height) (λ width. gives (place e.0.row e.0.col, sized e.1.height width)) (decimal e.1.width ∷ []) [] e.1.width (width_read e.1.height e.1.width [] small.width size.width size.merges))
+    (reads-next reads_size behind_row (span_words e) (decimal e.first.col ∷ sizes) e.first.row (size_read e.first.row (decimal e.first.col ∷ sizes) small.row)
+    ∙ reads-next reads_size (λ column. behind_column e.first.row column) (decimal e.first.col ∷ sizes) sizes e.first.col (size_read e.first.col sizes small.col)
+    ∙ reads-next reads_span_size (λ size. gives (rectangle (place e.first.row e.first.col) size)) sizes [] e.size (span_size_read e.size [] small.height small.width size))
 
-pub span_back : (e : Rectangle) → IsSmall e → IsSpanSize e.1 → says_line (tab_separated (codes "span" ∷ span_words e)) ≡ SpanLine (Ok e)
+pub span_back : (e : Rectangle) → IsSmall e → IsSpanSize e.size → says_line (tab_separated (codes "span" ∷ span_words e)) ≡ SpanLine (Ok e)
 span_back e small size =
     line_of-texts (tab_separated (codes "span" ∷ span_words e)) (codes "span" ∷ span_words e) (omega arith)
-    (texts_of-joined (codes "span") (span_words e) span_utf8 (decimal-utf8 e.0.row small.row, (decimal-utf8 e.0.col small.col, (decimal-utf8 e.1.height small.height, (decimal-utf8 e.1.width small.width, tt)))))
+    (texts_of-joined (codes "span") (span_words e) span_utf8 (decimal-utf8 e.first.row small.row, (decimal-utf8 e.first.col small.col, (decimal-utf8 e.size.height small.height, (decimal-utf8 e.size.width small.width, tt)))))
     ∙ ap SpanLine (anchor_back e small size)
 
 -- lines of things, each of which says what it says

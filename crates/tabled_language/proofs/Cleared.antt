@@ -2,78 +2,78 @@
 use Rattle.tabled_language.proofs.Common.{◌+◌, ◌<◌, ◌∙◌, ◌≡◌, ◌≤◌, ◌⊎◌, AreBeside, AreKeyed, BTreeMap, Bool, EndsAbove, IsBeside, IsClear, IsLastBefore, IsLeft, IsMet, MatchBool, NoneBefore, Rectangle, ap, arith, cases_lt, cond, false, get, inl, inr, is_eq, is_some, leb-false, leb-true, nat_cmp, nat_le, nat_tests, none-some, refl, same_Some, subst, sym, true, ℕ}
 use Rattle.std.specs.Prelude.{Option, None, Some}
 
-module _ (old m : BTreeMap ℕ Rectangle) (e : Rectangle) (keyed : AreKeyed old) (beside : AreBeside e.0.row old) (left : IsLeft e.0.row old m) where
-  past : (q : ℕ) (f : Rectangle) → get nat_cmp m q ≡ Some f → e.0.col + e.1.width ≤ q → EndsAbove e.0.row f ⊎ IsBeside e f
+module _ (old m : BTreeMap ℕ Rectangle) (e : Rectangle) (keyed : AreKeyed old) (beside : AreBeside e.first.row old) (left : IsLeft e.first.row old m) where
+  past : (q : ℕ) (f : Rectangle) → get nat_cmp m q ≡ Some f → e.first.col + e.size.width ≤ q → EndsAbove e.first.row f ⊎ IsBeside e f
   past q f is after = inr (inr (omega (arith, after, keyed q f (left.kept q f is))))
 
   -- none begins before the end
-  pub clear-none : NoneBefore m (e.0.col + e.1.width) → IsClear old e
+  pub clear-none : NoneBefore m (e.first.col + e.size.width) → IsClear old e
   clear-none none q f is = by (left.gone q f is)
     where
-      by : EndsAbove e.0.row f ⊎ (get nat_cmp m q ≡ Some f) → EndsAbove e.0.row f ⊎ IsBeside e f
+      by : EndsAbove e.first.row f ⊎ (get nat_cmp m q ≡ Some f) → EndsAbove e.first.row f ⊎ IsBeside e f
       by (inl above) = inl above
-      by (inr still) = at (cases_lt q (e.0.col + e.1.width))
+      by (inr still) = at (cases_lt q (e.first.col + e.size.width))
         where
-          at : (q < e.0.col + e.1.width) ⊎ (e.0.col + e.1.width ≤ q) → EndsAbove e.0.row f ⊎ IsBeside e f
+          at : (q < e.first.col + e.size.width) ⊎ (e.first.col + e.size.width ≤ q) → EndsAbove e.first.row f ⊎ IsBeside e f
           at (inl within) = absurd (none-some f (sym (none q within) ∙ still))
           at (inr after) = past q f still after
 
   -- the last one that does reaches the row, so it decides
-  pub clear-last : (near : Rectangle) (b : Bool) → IsLastBefore m (e.0.col + e.1.width) near → e.0.row < near.0.row + near.1.height → b ≡ nat_le (near.0.col + near.1.width) e.0.col → MatchBool b (IsClear old e) (IsMet old e)
+  pub clear-last : (near : Rectangle) (b : Bool) → IsLastBefore m (e.first.col + e.size.width) near → e.first.row < near.first.row + near.size.height → b ≡ nat_le (near.first.col + near.size.width) e.first.col → MatchBool b (IsClear old e) (IsMet old e)
   clear-last near b last reach told = by b told
     where
       here : get nat_cmp old last.0 ≡ Some near
       here = left.kept last.0 near last.2
 
-      at : near.0.col ≡ last.0
+      at : near.first.col ≡ last.0
       at = keyed last.0 near (left.kept last.0 near last.2)
 
-      clear : near.0.col + near.1.width ≤ e.0.col → IsClear old e
+      clear : near.first.col + near.size.width ≤ e.first.col → IsClear old e
       clear ends r f is = go (left.gone r f is)
         where
           near_is : get nat_cmp m r ≡ Some f → r ≡ last.0 → f ≡ near
           near_is still same = same_Some f near (sym still ∙ ap (get nat_cmp m) same ∙ last.2)
 
-          reached : (e.0.row < f.0.row + f.1.height) ⊎ EndsAbove e.0.row f → r < last.0 → EndsAbove e.0.row f ⊎ IsBeside e f
+          reached : (e.first.row < f.first.row + f.size.height) ⊎ EndsAbove e.first.row f → r < last.0 → EndsAbove e.first.row f ⊎ IsBeside e f
           reached (inl reaches) before = inr (inl (omega (arith, ends, at, beside r last.0 f near is here before reaches reach)))
           reached (inr above) before = inl above
 
-          order : get nat_cmp m r ≡ Some f → (r < last.0) ⊎ (last.0 ≤ r) → (last.0 < r) ⊎ (r ≤ last.0) → (r < e.0.col + e.1.width) ⊎ (e.0.col + e.1.width ≤ r) → EndsAbove e.0.row f ⊎ IsBeside e f
-          order still (inl before) later within = reached (cases_lt e.0.row (f.0.row + f.1.height)) before
+          order : get nat_cmp m r ≡ Some f → (r < last.0) ⊎ (last.0 ≤ r) → (last.0 < r) ⊎ (r ≤ last.0) → (r < e.first.col + e.size.width) ⊎ (e.first.col + e.size.width ≤ r) → EndsAbove e.first.row f ⊎ IsBeside e f
+          order still (inl before) later within = reached (cases_lt e.first.row (f.first.row + f.size.height)) before
           order still (inr from) (inl behind) (inl within) = absurd (none-some f (sym (last.3 r behind within) ∙ still))
           order still (inr from) (inl behind) (inr after) = past r f still after
-          order still (inr from) (inr to) within = subst (λ (a : Rectangle). EndsAbove e.0.row a ⊎ IsBeside e a) (sym (near_is still (omega (arith, from, to)))) (inr (inl ends))
+          order still (inr from) (inr to) within = subst (λ (a : Rectangle). EndsAbove e.first.row a ⊎ IsBeside e a) (sym (near_is still (omega (arith, from, to)))) (inr (inl ends))
 
-          go : EndsAbove e.0.row f ⊎ (get nat_cmp m r ≡ Some f) → EndsAbove e.0.row f ⊎ IsBeside e f
+          go : EndsAbove e.first.row f ⊎ (get nat_cmp m r ≡ Some f) → EndsAbove e.first.row f ⊎ IsBeside e f
           go (inl above) = inl above
-          go (inr still) = order still (cases_lt r last.0) (cases_lt last.0 r) (cases_lt r (e.0.col + e.1.width))
+          go (inr still) = order still (cases_lt r last.0) (cases_lt last.0 r) (cases_lt r (e.first.col + e.size.width))
 
-      met : e.0.col < near.0.col + near.1.width → IsMet old e
+      met : e.first.col < near.first.col + near.size.width → IsMet old e
       met over = (last.0, near, here, reach, omega (arith, at, last.1), over)
 
-      by : (c : Bool) → c ≡ nat_le (near.0.col + near.1.width) e.0.col → MatchBool c (IsClear old e) (IsMet old e)
+      by : (c : Bool) → c ≡ nat_le (near.first.col + near.size.width) e.first.col → MatchBool c (IsClear old e) (IsMet old e)
       by true is = clear (leb-true _ _ (sym is))
       by false is = met (leb-false _ _ (sym is))
 
   -- one that ends above is taken away
-  pub left-less : (near : Rectangle) (new : BTreeMap ℕ Rectangle) → IsLastBefore m (e.0.col + e.1.width) near → EndsAbove e.0.row near → ((q : ℕ) → get nat_cmp new q ≡ cond (is_eq (nat_cmp near.0.col q)) None (get nat_cmp m q)) → IsLeft e.0.row old new
-  left-less near new last above put = record { kept = λ q f is. left.kept q f (was q f is (is_eq (nat_cmp near.0.col q)) refl); gone = λ q f is. gone q f (left.gone q f is) }
+  pub left-less : (near : Rectangle) (new : BTreeMap ℕ Rectangle) → IsLastBefore m (e.first.col + e.size.width) near → EndsAbove e.first.row near → ((q : ℕ) → get nat_cmp new q ≡ cond (is_eq (nat_cmp near.first.col q)) None (get nat_cmp m q)) → IsLeft e.first.row old new
+  left-less near new last above put = record { kept = λ q f is. left.kept q f (was q f is (is_eq (nat_cmp near.first.col q)) refl); gone = λ q f is. gone q f (left.gone q f is) }
     where
-      at : near.0.col ≡ last.0
+      at : near.first.col ≡ last.0
       at = keyed last.0 near (left.kept last.0 near last.2)
 
-      was : (q : ℕ) (f : Rectangle) → get nat_cmp new q ≡ Some f → (b : Bool) → is_eq (nat_cmp near.0.col q) ≡ b → get nat_cmp m q ≡ Some f
+      was : (q : ℕ) (f : Rectangle) → get nat_cmp new q ≡ Some f → (b : Bool) → is_eq (nat_cmp near.first.col q) ≡ b → get nat_cmp m q ≡ Some f
       was q f is true t = absurd (none-some f (sym (put q ∙ ap (λ b. cond b None (get nat_cmp m q)) t) ∙ is))
       was q f is false t = sym (put q ∙ ap (λ b. cond b None (get nat_cmp m q)) t) ∙ is
 
-      gone : (q : ℕ) (f : Rectangle) → EndsAbove e.0.row f ⊎ (get nat_cmp m q ≡ Some f) → EndsAbove e.0.row f ⊎ (get nat_cmp new q ≡ Some f)
+      gone : (q : ℕ) (f : Rectangle) → EndsAbove e.first.row f ⊎ (get nat_cmp m q ≡ Some f) → EndsAbove e.first.row f ⊎ (get nat_cmp new q ≡ Some f)
       gone q f (inl over) = inl over
-      gone q f (inr still) = by (is_eq (nat_cmp near.0.col q)) refl
+      gone q f (inr still) = by (is_eq (nat_cmp near.first.col q)) refl
         where
-          by : (b : Bool) → is_eq (nat_cmp near.0.col q) ≡ b → EndsAbove e.0.row f ⊎ (get nat_cmp new q ≡ Some f)
+          by : (b : Bool) → is_eq (nat_cmp near.first.col q) ≡ b → EndsAbove e.first.row f ⊎ (get nat_cmp new q ≡ Some f)
           by true t =
-              let same : near.0.col ≡ q = grind (arith, nat_tests) in
-              inl (subst (λ (a : Rectangle). EndsAbove e.0.row a) (sym (same_Some f near (sym still ∙ ap (get nat_cmp m) (sym same ∙ at) ∙ last.2))) above)
+              let same : near.first.col ≡ q = grind (arith, nat_tests) in
+              inl (subst (λ (a : Rectangle). EndsAbove e.first.row a) (sym (same_Some f near (sym still ∙ ap (get nat_cmp m) (sym same ∙ at) ∙ last.2))) above)
           by false t = inr (put q ∙ ap (λ b. cond b None (get nat_cmp m q)) t ∙ still)
 
 -- something was taken away
@@ -82,7 +82,7 @@ smaller None near n k len is = absurd (none-some near is)
 smaller (Some f) near n k len is = omega (arith, len)
 
 -- it was there
-pub last_here : (old m : BTreeMap ℕ Rectangle) (row end : ℕ) (near : Rectangle) → AreKeyed old → IsLeft row old m → IsLastBefore m end near → get nat_cmp m near.0.col ≡ Some near
+pub last_here : (old m : BTreeMap ℕ Rectangle) (row end : ℕ) (near : Rectangle) → AreKeyed old → IsLeft row old m → IsLastBefore m end near → get nat_cmp m near.first.col ≡ Some near
 last_here old m row end near keyed left last = ap (get nat_cmp m) (keyed last.0 near (left.kept last.0 near last.2)) ∙ last.2
 
 -- what the tests of a row say

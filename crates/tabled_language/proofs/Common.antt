@@ -11,7 +11,7 @@ pub use Rattle.std.proofs.lemmas.List.Sums.{count_by-le-length, fails_before_fir
 pub use Rattle.std.proofs.lemmas.Result.{err_from_is_err_and}
 pub use Rattle.std.proofs.lemmas.Str.{IsCharBoundary-after_ascii, IsCharBoundary-before_ascii, IsUtf8-drop, IsUtf8-from_ascii, IsUtf8-from_is_utf8, IsUtf8-had, IsUtf8-string_bytes, IsUtf8-take, is_utf8-from_IsUtf8}
 pub use Rattle.std.specs.BTreeMap.{BTreeMap, btree_map_len, get}
-pub use Rattle.std.specs.FinMap.{empty, from_entries, get-from_entries}
+pub use Rattle.std.specs.FinMap.{empty, get-from_entries}
 pub use Rattle.std.specs.List.{position_or_len, slice_index_or}
 pub use Rattle.std.specs.Option.{is_none, option_or}
 pub use Rattle.std.specs.Prelude.{MatchBool, filter_map, is_ok, is_some}
@@ -19,11 +19,12 @@ pub use Rattle.std.specs.Result.{IsErrAnd, IsOk, result_ok}
 pub use Rattle.std.specs.Str.{all_ascii_digits, bytes_eq}
 pub use Rattle.std.specs.Str.Parse.{ParsesUnsigned, digits_value}
 pub use Rattle.std.specs.String.{string_vec}
-pub use Rattle.tabled_grid.proofs.Common.{[], ◌*◌, ◌++◌, ◌+◌, ◌-◌, ◌<◌, ◌∙◌, ◌∷◌, ◌≡◌, ◌≢◌, ◌≤◌, ◌⊎◌, All-from_recursion, All-permutation, AllByRecursion, AreAnchors, AreWide, Bool, Equal, Err, Fits, Greater, Grid, IsEmptyWithoutRows, IsEven, IsSpanSize, Less, List, MatchOrdering, None, Ok, Option, Ordering, Rectangle, Result, Some, SpanMap, T, Vec, all-append, and_from, and_left, and_parts, and_right, answers_always, ap, append-nil, append_assoc, ap₂, arith, below_all, cases_Bool, cases_lt, common_steps, cond, cond-false, cond-true, count_by, drop, drop-drop, drop_all, drop_more, entries, entries-from_sorted, entries_sorted, eqb, eqb-true, false, false_from_ne_true, false≢true, find, flat_map, from_sorted, get-entries, get-from_sorted, get_or, get_or_default, grid_of, inl, inr, is_eq, is_lt, is_sorted, length, length-append, length-drop, length-map, lie_well, lies_inside, list_all, list_any, map, map-append, map_grid, map_items, map_push, max, meets, mul-le-mul_right, nat_cmp, nat_le, none-some, not-true, not_from_false, option_map, or_right, ordering_reverse, place, position_cmp, range_with_len, ranked, recursion_from_All, refl, remove, rules, same_Some, same_entries_map, same_map, sized, subst, suc, sym, take, take-append-drop, take_all, take_more, tied_itself, true, vec_len, width_of, zero, ℕ}
+pub use Rattle.tabled_grid.proofs.Common.{All-from_recursion, All-permutation, AllByRecursion, AreAnchors, AreSorted, AreWide, Bool, Equal, Err, Fits, Greater, Grid, IsEmptyWithoutRows, IsEven, IsSpanSize, Less, List, MatchOrdering, None, Ok, Option, Ordering, Result, Some, SpanMap, T, Vec, [], all-append, and_from, and_left, and_parts, and_right, answers_always, ap, append-nil, append_assoc, ap₂, arith, cases_Bool, cases_lt, common_steps, cond, cond-false, cond-true, count_by, drop, drop-drop, drop_all, drop_more, eqb, eqb-true, false, false_from_ne_true, false≢true, flat_map, get_or, get_or_default, grid_of, inl, inr, is_eq, is_lt, length, length-append, length-drop, length-map, lie_well, lies_inside, list_all, list_any, map, map-append, map_grid, map_items, map_of, map_push, max, meets, mul-le-mul_right, nat_cmp, nat_le, none-some, not-true, not_from_false, option_map, or_right, ordering_reverse, pairs, place, position_cmp, range_with_len, ranked, rectangle, rectangles, recursion_from_All, refl, remove, rules, same_Some, same_map, sized, subst, suc, sym, take, take-append-drop, take_all, take_more, tied_itself, true, vec_len, width_of, zero, ℕ, ◌*◌, ◌++◌, ◌+◌, ◌-◌, ◌<◌, ◌∙◌, ◌∷◌, ◌≡◌, ◌≢◌, ◌≤◌, ◌⊎◌}
 pub use Rattle.tabled_grid.proofs.MetAnchors.{meets-turned}
 pub use Rattle.tabled_grid.proofs.PassedAnchors.{Meets, meets-from, meets-true}
-pub use Rattle.tabled_grid.proofs.SpanMaps.{both}
+pub use Rattle.tabled_grid.proofs.SortedEntries.{both, find_at, get-map_of, get-rectangles, halves, is_less, less, map_of-rectangles, positions_exact, positions_total, rectangles-map_of, rectangles_sorted}
 pub use Rattle.tabled_grid.specs.declared.config.position.Position.{Position}
+pub use Rattle.tabled_grid.specs.declared.config.rectangle.Rectangle.{Rectangle}
 pub use Rattle.tabled_grid.specs.declared.config.size.Size.{Size}
 pub use Rattle.tabled_language.proofs.OwnWords.{LackEach, line_of_own_words, own_word, parts_lack, parts_lack_separator}
 pub use Rattle.tabled_language.specs.Drafts.{Draft, anchor_lines, draft_of, fault_behind, is_nil, shape_among, shape_at, shape_misfit, takes, with_line}
@@ -32,10 +33,10 @@ pub use Rattle.tabled_language.specs.Lent.{bytes_of, texts_in_row}
 pub use Rattle.tabled_language.specs.Line.{anchor_in, has_byte, is_plain, lines_of, meaning_of, record_in, says_line, shape_in, step_in, table_from, texts_of, words_of}
 pub use Rattle.tabled_language.specs.Output.{IsOwnWord, escaped, escaped_byte, line, print, span_line, tab_separated}
 pub use Rattle.tabled_language.specs.Parsing.{DraftMeans, EndsDraft, EndsEarly, EndsScript, LineEnds, Reads, ReadsLine, ReadsScript, draft_in, in_line}
-pub use Rattle.tabled_language.specs.Placed.{EndsMerge, IsFirstMisfit, fit_in, has_place, have_places}
+pub use Rattle.tabled_language.specs.Placed.{AreSpans, EndsMerge, IsFirstMisfit, has_place, spans_of}
 pub use Rattle.tabled_language.specs.Script.{Script, parse, script_of, script_or_fault, start}
 pub use Rattle.tabled_language.specs.Selectors.{reads_cells, reads_selector, selectors}
-pub use Rattle.tabled_language.specs.Sizes.{reads_anchor, reads_shape, reads_width}
+pub use Rattle.tabled_language.specs.Sizes.{if_span, reads_anchor, reads_shape, reads_span_size}
 pub use Rattle.tabled_language.specs.Verb.{EmptyLine, FaultyLine, Line, RecordLine, ShapeLine, SpanLine, StepLine, reads_dup, reads_rows, reads_table, rows_of_texts, says, step_line, steps}
 pub use Rattle.tabled_language.specs.Walk.{AreBeside, AreKeyed, EndsAbove, IsBeside, IsClear, IsLastBefore, IsLeft, IsMet, NoneBefore, RowsRise}
 pub use Rattle.tabled_language.specs.Word.{before, escape, if_utf8, integer_of, number_of, number_to, size_of, text_of_word, unescaped}
@@ -48,7 +49,7 @@ pub use Rattle.tabled_language.specs.declared.fault.ReadError.{ReadError}
 pub use Rattle.tabled_language.specs.declared.fault.ReadError.TheVariants.{Faulty, OutOfMemory}
 pub use Rattle.tabled_select.proofs.Common.{◌%◌, IfOk-weaker, lt-ltb}
 pub use Rattle.tabled_settings.proofs.Common.{IfOk, eq-eqb, map-map, nat_tests, same_grid}
-pub use Rattle.tabled_spans.proofs.Common.{◌^◌, IsUtf8, eqb-false, equal, found_above, halves, join_with_byte, le-leb, less, positions_exact, positions_total, slice_split}
+pub use Rattle.tabled_spans.proofs.Common.{IsUtf8, eqb-false, join_with_byte, le-leb, slice_split, ◌^◌}
 pub use Rattle.tabled_steps.proofs.Common.{Excluded, State, after, duplicate, leb-true, named_by, option_and_then}
 pub use Rattle.tabled_steps.specs.Selected.{Named}
 pub use Rattle.tabled_table.proofs.Common.{◌&&◌, ◌||◌, ChangedBy, Global, String, changed_all, changed_more, decimal, from_uneven, length-map-range_with_len, longest, map-range_with_len_more, not, padded_to, string_bytes, table_of}

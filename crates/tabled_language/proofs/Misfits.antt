@@ -1,92 +1,90 @@
 -- The first faulty span among lines is the first misfit among their anchors.
-use Rattle.tabled_language.proofs.Common.{[], ◌++◌, ◌+◌, ◌<◌, ◌∙◌, ◌∷◌, ◌≡◌, Fault, Grid, IsFirstMisfit, Line, List, None, Option, Rectangle, Some, SpanMisfits, anchor_in, anchor_lines, and_parts, ap, append-nil, append_assoc, ap₂, arith, false, filter_map, filter_map-append, first_fault, fit_in, get_or, has_place, have_places, length, length-append, refl, span_fault, subst, suc, sym, take, true, unless_it, zero, ℕ}
+use Rattle.tabled_language.proofs.Common.{[], ◌&&◌, ◌++◌, ◌+◌, ◌<◌, ◌∙◌, ◌∷◌, ◌≡◌, Bool, Grid, IsFirstMisfit, Line, List, None, Option, Rectangle, Some, SpanMisfits, anchor_in, anchor_lines, and_parts, ap, append-nil, append_assoc, arith, false, filter_map, filter_map-append, first_fault, get_or, has_place, length, length-append, lie_well, refl, span_fault, subst, suc, sym, take, true, zero, ℕ}
+use Rattle.std.proofs.Math.Numerals.{add-one}
+use Rattle.tabled_language.proofs.PlacedAnchors.{well-left, well-push}
 
--- what first_fault says of the first line, and of the others
-abbrev step : ℕ → Option Fault → Option (ℕ × Fault) → Option (ℕ × Fault)
-step n None later = later
-step n (Some fault) later = Some (n, fault)
-
-first-step : (fault_at : List Line → Line → Option Fault) (earlier : List Line) (line : Line) (lines : List Line) (o : Option Fault) → fault_at earlier line ≡ o → first_fault fault_at earlier (line ∷ lines) ≡ step (length earlier + 1) o (first_fault fault_at (earlier ++ line ∷ []) lines)
-first-step fault_at earlier line lines None is = rw is refl
-first-step fault_at earlier line lines (Some fault) is = rw is refl
-
-abbrev numbered : ℕ → Option Rectangle → List ℕ → List ℕ
-numbered n None numbers = numbers
-numbered n (Some anchor) numbers = (n + 1) ∷ numbers
-
-lines-step : (n : ℕ) (line : Line) (lines : List Line) (o : Option Rectangle) → anchor_in line ≡ o → anchor_lines n (line ∷ lines) ≡ numbered n o (anchor_lines (n + 1) lines)
-lines-step n line lines None is = rw is refl
-lines-step n line lines (Some anchor) is = rw is refl
-
-abbrev with_first : Option Rectangle → List Rectangle → List Rectangle
-with_first None es = es
-with_first (Some e) es = e ∷ es
-
-anchors-step : (line : Line) (lines : List Line) (o : Option Rectangle) → anchor_in line ≡ o → filter_map anchor_in (line ∷ lines) ≡ with_first o (filter_map anchor_in lines)
-anchors-step line lines None is = rw is refl
-anchors-step line lines (Some e) is = rw is refl
+-- the anchors that lines say
+abbrev anchors : List Line → List Rectangle
+anchors lines = filter_map anchor_in lines
 
 module _ (g : Grid (List ℕ)) where
-  -- after these anchors, the first i have places and the next has none
-  abbrev Misfit : List Rectangle → List Rectangle → ℕ → Type 0
-  Misfit done es i = (have_places g.rows g.columns done (take i es) ≡ true) × ((d : Rectangle) → has_place g.rows g.columns (done ++ take i es) (get_or es i d) ≡ false) × (i < length es)
+  abbrev well : List Rectangle → Bool
+  well es = lie_well g.rows g.columns es
 
-  misfit_at : (lines earlier : List Line) (done : List Rectangle) (i : ℕ) → filter_map anchor_in earlier ≡ done → Misfit done (filter_map anchor_in lines) i → first_fault (span_fault g) earlier lines ≡ Some (get_or (anchor_lines (length earlier) lines) i 0, SpanMisfits)
-  misfit_at [] earlier done i is m = absurd (omega (arith, m.2))
-  misfit_at (line ∷ lines) earlier done i is m = by (anchor_in line) refl i m (λ k. misfit_at lines (earlier ++ line ∷ []) k)
+  -- one in front of others that lie well with those before it has a place
+  place_there : (done es : List Rectangle) (e : Rectangle) → well (done ++ e ∷ es) ≡ true → has_place g.rows g.columns done e ≡ true
+  place_there done es e h =
+      let front = well-left g.rows g.columns (done ++ e ∷ []) es (ap well (append_assoc done (e ∷ []) es) ∙ h) in
+      (and_parts _ _ (sym (well-push g.rows g.columns done e) ∙ front)).1
+
+  -- the next of rectangles that lie well has none, where they do not with it
+  no_place : (done : List Rectangle) (e : Rectangle) → well done ≡ true → well (done ++ e ∷ []) ≡ false → has_place g.rows g.columns done e ≡ false
+  no_place done e fine not_well = ap (λ b. b && has_place g.rows g.columns done e) (sym fine) ∙ sym (well-push g.rows g.columns done e) ∙ not_well
+
+  module _ (earlier : List Line) (line : Line) (lines : List Line) where
+    -- a line that says no anchor
+    passed : anchor_in line ≡ None → first_fault (span_fault g) earlier (line ∷ lines) ≡ first_fault (span_fault g) (earlier ++ line ∷ []) lines
+    passed is = rw is refl
+
+    -- one whose rectangle has a place
+    fits : (e : Rectangle) → anchor_in line ≡ Some e → has_place g.rows g.columns (anchors earlier) e ≡ true → first_fault (span_fault g) earlier (line ∷ lines) ≡ first_fault (span_fault g) (earlier ++ line ∷ []) lines
+    fits e is fine = rw (is, fine) refl
+
+    -- one whose rectangle has none
+    misfits : (e : Rectangle) → anchor_in line ≡ Some e → has_place g.rows g.columns (anchors earlier) e ≡ false → first_fault (span_fault g) earlier (line ∷ lines) ≡ Some (length earlier + 1, SpanMisfits)
+    misfits e is none = rw (is, none) refl
+
+  -- no span is faulty where all lie well
+  fine_behind : (earlier lines : List Line) → well (anchors (earlier ++ lines)) ≡ true → first_fault (span_fault g) earlier lines ≡ None
+  fine_behind earlier [] h = refl
+  fine_behind earlier (line ∷ lines) h = by (anchor_in line) refl (fine_behind (earlier ++ line ∷ []) lines (ap (λ (all : List Line). well (anchors all)) (append_assoc earlier (line ∷ []) lines) ∙ h))
+    where
+      by : (o : Option Rectangle) → anchor_in line ≡ o → first_fault (span_fault g) (earlier ++ line ∷ []) lines ≡ None → first_fault (span_fault g) earlier (line ∷ lines) ≡ None
+      by None is later = passed earlier line lines is ∙ later
+      by (Some e) is later =
+          let here : anchors (line ∷ lines) ≡ e ∷ anchors lines = rw is refl in
+          let all : well (anchors earlier ++ e ∷ anchors lines) ≡ true = ap well (ap (λ (es : List Rectangle). anchors earlier ++ es) (sym here) ∙ sym (filter_map-append anchor_in earlier (line ∷ lines))) ∙ h in
+          fits earlier line lines e is (place_there (anchors earlier) (anchors lines) e all) ∙ later
+
+  pub no_misfit : (lines : List Line) → well (anchors lines) ≡ true → first_fault (span_fault g) [] lines ≡ None
+  no_misfit lines h = fine_behind [] lines h
+
+  -- after these rectangles, i more lie well, and one more does not
+  record Misfit (done es : List Rectangle) (i : ℕ) : Type 0 where
+    within : i < length es
+    before : well (done ++ take i es) ≡ true
+    there : well (done ++ take (suc i) es) ≡ false
+
+  misfit_behind : (earlier lines : List Line) (i : ℕ) → Misfit (anchors earlier) (anchors lines) i → first_fault (span_fault g) earlier lines ≡ Some (get_or (anchor_lines (length earlier) lines) i 0, SpanMisfits)
+  misfit_behind earlier [] i m = absurd (omega (arith, m.within))
+  misfit_behind earlier (line ∷ lines) i m = by (anchor_in line) refl i m (misfit_behind (earlier ++ line ∷ []) lines)
     where
       longer : length (earlier ++ line ∷ []) ≡ length earlier + 1
       longer = length-append earlier (line ∷ [])
 
-      fault : (o : Option Rectangle) → anchor_in line ≡ o → span_fault g earlier line ≡ unless_it (has_place g.rows g.columns done) SpanMisfits o
-      fault o e = ap₂ (λ (es : List Rectangle) (a : Option Rectangle). unless_it (has_place g.rows g.columns es) SpanMisfits a) is e
-
-      more : (o : Option Rectangle) → anchor_in line ≡ o → filter_map anchor_in (earlier ++ line ∷ []) ≡ done ++ with_first o []
-      more o e = filter_map-append anchor_in earlier (line ∷ []) ∙ ap₂ (λ (xs ys : List Rectangle). xs ++ ys) is (anchors-step line [] o e)
-
-      by : (o : Option Rectangle) → anchor_in line ≡ o → (i : ℕ) → Misfit done (filter_map anchor_in (line ∷ lines)) i → ((k : List Rectangle) (j : ℕ) → filter_map anchor_in (earlier ++ line ∷ []) ≡ k → Misfit k (filter_map anchor_in lines) j → first_fault (span_fault g) (earlier ++ line ∷ []) lines ≡ Some (get_or (anchor_lines (length (earlier ++ line ∷ [])) lines) j 0, SpanMisfits)) → first_fault (span_fault g) earlier (line ∷ lines) ≡ Some (get_or (anchor_lines (length earlier) (line ∷ lines)) i 0, SpanMisfits)
-      by None e i m later =
-          let here : Misfit done (filter_map anchor_in lines) i = subst (λ es. Misfit done es i) (anchors-step line lines None e) m in
-          first-step (span_fault g) earlier line lines None (fault None e)
-          ∙ later done i (more None e ∙ append-nil done) here
-          ∙ ap (λ (ns : List ℕ). Some (get_or ns i 0, SpanMisfits)) (ap (λ n. anchor_lines n lines) longer ∙ sym (lines-step (length earlier) line lines None e))
-      by (Some a) e zero m later =
-          let here : Misfit done (a ∷ filter_map anchor_in lines) zero = subst (λ es. Misfit done es zero) (anchors-step line lines (Some a) e) m in
-          let none : has_place g.rows g.columns done a ≡ false = ap (λ es. has_place g.rows g.columns es a) (sym (append-nil done)) ∙ here.1 a in
-          first-step (span_fault g) earlier line lines (Some SpanMisfits) (fault (Some a) e ∙ rw none refl)
-          ∙ ap (λ (ns : List ℕ). Some (get_or ns 0 0, SpanMisfits)) (sym (lines-step (length earlier) line lines (Some a) e))
-      by (Some a) e (suc i) m later =
-          let here : Misfit done (a ∷ filter_map anchor_in lines) (suc i) = subst (λ es. Misfit done es (suc i)) (anchors-step line lines (Some a) e) m in
-          let parts = and_parts (has_place g.rows g.columns done a) (have_places g.rows g.columns (done ++ a ∷ []) (take i (filter_map anchor_in lines))) here.0 in
-          let behind : Misfit (done ++ a ∷ []) (filter_map anchor_in lines) i = (parts.1, λ d. ap (λ es. has_place g.rows g.columns es (get_or (filter_map anchor_in lines) i d)) (append_assoc done (a ∷ []) (take i (filter_map anchor_in lines))) ∙ here.1 d, omega (arith, here.2)) in
-          first-step (span_fault g) earlier line lines None (fault (Some a) e ∙ rw parts.0 refl)
-          ∙ later (done ++ a ∷ []) i (more (Some a) e) behind
-          ∙ ap (λ (ns : List ℕ). Some (get_or ns i 0, SpanMisfits)) (ap (λ n. anchor_lines n lines) longer)
-          ∙ ap (λ (ns : List ℕ). Some (get_or ns (suc i) 0, SpanMisfits)) (sym (lines-step (length earlier) line lines (Some a) e))
-
-  fits_at : (lines earlier : List Line) (done : List Rectangle) → filter_map anchor_in earlier ≡ done → have_places g.rows g.columns done (filter_map anchor_in lines) ≡ true → first_fault (span_fault g) earlier lines ≡ None
-  fits_at [] earlier done is fit = refl
-  fits_at (line ∷ lines) earlier done is fit = by (anchor_in line) refl (fits_at lines (earlier ++ line ∷ []))
-    where
-      fault : (o : Option Rectangle) → anchor_in line ≡ o → span_fault g earlier line ≡ unless_it (has_place g.rows g.columns done) SpanMisfits o
-      fault o e = ap₂ (λ (es : List Rectangle) (a : Option Rectangle). unless_it (has_place g.rows g.columns es) SpanMisfits a) is e
-
-      more : (o : Option Rectangle) → anchor_in line ≡ o → filter_map anchor_in (earlier ++ line ∷ []) ≡ done ++ with_first o []
-      more o e = filter_map-append anchor_in earlier (line ∷ []) ∙ ap₂ (λ (xs ys : List Rectangle). xs ++ ys) is (anchors-step line [] o e)
-
-      by : (o : Option Rectangle) → anchor_in line ≡ o → ((k : List Rectangle) → filter_map anchor_in (earlier ++ line ∷ []) ≡ k → have_places g.rows g.columns k (filter_map anchor_in lines) ≡ true → first_fault (span_fault g) (earlier ++ line ∷ []) lines ≡ None) → first_fault (span_fault g) earlier (line ∷ lines) ≡ None
-      by None e later =
-          first-step (span_fault g) earlier line lines None (fault None e)
-          ∙ later done (more None e ∙ append-nil done) (ap (have_places g.rows g.columns done) (sym (anchors-step line lines None e)) ∙ fit)
-      by (Some a) e later =
-          let parts = and_parts (has_place g.rows g.columns done a) (have_places g.rows g.columns (done ++ a ∷ []) (filter_map anchor_in lines)) (ap (have_places g.rows g.columns done) (sym (anchors-step line lines (Some a) e)) ∙ fit) in
-          first-step (span_fault g) earlier line lines None (fault (Some a) e ∙ rw parts.0 refl)
-          ∙ later (done ++ a ∷ []) (more (Some a) e) parts.1
+      by : (o : Option Rectangle) → anchor_in line ≡ o → (i : ℕ) → Misfit (anchors earlier) (anchors (line ∷ lines)) i
+          → ((j : ℕ) → Misfit (anchors (earlier ++ line ∷ [])) (anchors lines) j → first_fault (span_fault g) (earlier ++ line ∷ []) lines ≡ Some (get_or (anchor_lines (length (earlier ++ line ∷ [])) lines) j 0, SpanMisfits))
+          → first_fault (span_fault g) earlier (line ∷ lines) ≡ Some (get_or (anchor_lines (length earlier) (line ∷ lines)) i 0, SpanMisfits)
+      by None is i m later =
+          let here : anchors (line ∷ lines) ≡ anchors lines = rw is refl in
+          let more : anchors (earlier ++ line ∷ []) ≡ anchors earlier = filter_map-append anchor_in earlier (line ∷ []) ∙ rw is (append-nil (anchors earlier)) in
+          let numbers : anchor_lines (length earlier) (line ∷ lines) ≡ anchor_lines (length (earlier ++ line ∷ [])) lines = rw (is, longer) refl in
+          passed earlier line lines is ∙ later i (subst (λ done. Misfit done (anchors lines) i) (sym more) (subst (λ es. Misfit (anchors earlier) es i) here m))
+          ∙ ap (λ (ns : List ℕ). Some (get_or ns i 0, SpanMisfits)) (sym numbers)
+      by (Some e) is i m later =
+          let here : anchors (line ∷ lines) ≡ e ∷ anchors lines = rw is refl in
+          let more : anchors (earlier ++ line ∷ []) ≡ anchors earlier ++ e ∷ [] = filter_map-append anchor_in earlier (line ∷ []) ∙ rw is refl in
+          let numbers : anchor_lines (length earlier) (line ∷ lines) ≡ (length earlier + 1) ∷ anchor_lines (length (earlier ++ line ∷ [])) lines = rw (is, longer) refl in
+          at i (subst (λ es. Misfit (anchors earlier) es i) here m) more
+          ∙ ap (λ (ns : List ℕ). Some (get_or ns i 0, SpanMisfits)) (sym numbers)
+        where
+          at : (i : ℕ) → Misfit (anchors earlier) (e ∷ anchors lines) i → anchors (earlier ++ line ∷ []) ≡ anchors earlier ++ e ∷ [] → first_fault (span_fault g) earlier (line ∷ lines) ≡ Some (get_or ((length earlier + 1) ∷ anchor_lines (length (earlier ++ line ∷ [])) lines) i 0, SpanMisfits)
+          at zero m more = misfits earlier line lines e is (no_place (anchors earlier) e (ap well (sym (append-nil (anchors earlier))) ∙ m.before) m.there)
+          at (suc j) m more =
+              let rest : (n : ℕ) → anchors (earlier ++ line ∷ []) ++ take n (anchors lines) ≡ anchors earlier ++ e ∷ take n (anchors lines) = λ n. ap (λ (es : List Rectangle). es ++ take n (anchors lines)) more ∙ append_assoc (anchors earlier) (e ∷ []) (take n (anchors lines)) in
+              fits earlier line lines e is (place_there (anchors earlier) (take j (anchors lines)) e m.before)
+              ∙ later j (record { within = omega (arith, m.within); before = ap well (rest j) ∙ m.before; there = ap well (rest (suc j)) ∙ m.there })
 
   -- the first faulty span stands on the line of the first misfit
-  pub first_misfit_line : (lines : List Line) (i : ℕ) → IsFirstMisfit g.rows g.columns (filter_map anchor_in lines) i → first_fault (span_fault g) [] lines ≡ Some (get_or (anchor_lines 0 lines) i 0, SpanMisfits)
-  first_misfit_line lines i m = misfit_at lines [] [] i refl (m.before, m.there, m.within)
-
-  -- no span is faulty where all fit
-  pub no_misfit : (lines : List Line) → fit_in g.rows g.columns (filter_map anchor_in lines) ≡ true → first_fault (span_fault g) [] lines ≡ None
-  no_misfit lines fit = fits_at lines [] [] refl fit
+  pub first_misfit_line : (lines : List Line) (i : ℕ) → IsFirstMisfit g.rows g.columns (anchors lines) i → first_fault (span_fault g) [] lines ≡ Some (get_or (anchor_lines 0 lines) i 0, SpanMisfits)
+  first_misfit_line lines i m = misfit_behind [] lines i (record { within = m.within; before = m.before; there = ap (λ n. well (take n (anchors lines))) (sym add-one) ∙ m.there })

@@ -1,5 +1,5 @@
 -- Scripts without the words of tables mean what their records and steps say.
-use Rattle.tabled_language.proofs.Common.{[], ◌++◌, ◌||◌, ◌∙◌, ◌∷◌, ◌≡◌, AllByRecursion, Bool, EmptyLine, Err, Fault, FaultyLine, Grid, Line, List, None, Ok, Option, OutOfPlace, RecordLine, Rectangle, Result, Script, ShapeLine, Some, SpanLine, SpanMap, State, StepLine, all-append, anchor_in, ap, ap₂, behind, bytes_eq, codes, cond, empty, false, fault_among, fault_of, filter_map, first_fault, from_entries, is_in_place, lines_of, list_any, map, meaning_of, not, option_or, or_parts, parse, record_in, refl, says, says_line, script_or_fault, shape_fault, shape_in, span_fault, step_in, step_line, steps, sym, table_from, texts_of, true, whole, words_of, ℕ}
+use Rattle.tabled_language.proofs.Common.{[], ◌++◌, ◌||◌, ◌∙◌, ◌∷◌, ◌≡◌, AllByRecursion, Bool, EmptyLine, Err, Fault, FaultyLine, Grid, Line, List, None, Ok, Option, OutOfPlace, RecordLine, Rectangle, Result, Script, ShapeLine, Some, SpanLine, SpanMap, State, StepLine, all-append, anchor_in, ap, ap₂, behind, bytes_eq, codes, cond, empty, false, fault_among, fault_of, filter_map, first_fault, spans_of, is_in_place, lines_of, list_any, map, meaning_of, not, option_or, or_parts, parse, record_in, refl, says, says_line, script_or_fault, shape_fault, shape_in, span_fault, step_in, step_line, steps, sym, table_from, texts_of, true, whole, words_of, ℕ}
 use Rattle.tabled_language.specs.Plain.{begin_a_table, has_either_word, is_step, plain_fault, plain_line_of, plain_meaning_of, plain_parse, plain_script, says_plainly}
 use Rattle.tabled_language.proofs.LooseLines.{loose_place}
 
@@ -112,7 +112,7 @@ among-plain lines plain =
     ap₂ (λ (a b : Option (ℕ × Fault)). option_or (first_fault fault_of [] lines) (option_or a b)) (quiet (shape_fault g) (no_shape g) [] lines plain) (quiet (span_fault g) (no_span g) [] lines plain)
     ∙ none_behind (first_fault fault_of [] lines) ∙ faults-plain [] lines tt plain
 
-either_way : (lines : List Line) (o : Option (ℕ × Fault)) → fault_among lines ≡ o → script_or_fault lines ≡ scripted lines o (from_entries (filter_map anchor_in lines))
+either_way : (lines : List Line) (o : Option (ℕ × Fault)) → fault_among lines ≡ o → script_or_fault lines ≡ scripted lines o (spans_of (filter_map anchor_in lines))
 either_way lines None is = rw is refl
 either_way lines (Some fault) is = rw is refl
 
@@ -124,7 +124,7 @@ script-plain : (lines : List Line) → AllByRecursion IsPlain lines → script_o
 script-plain lines plain =
     let first = first_fault plain_fault [] lines in
     either_way lines first (among-plain lines plain)
-    ∙ ap (λ (es : List Rectangle). scripted lines first (from_entries es)) (no_anchors lines plain)
+    ∙ ap (λ (es : List Rectangle). scripted lines first (spans_of es)) (no_anchors lines plain)
     ∙ sym (plain_way lines first refl)
 
 -- a script in which no line begins with `shape` or `span` means what it meant

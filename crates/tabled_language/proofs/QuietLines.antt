@@ -1,7 +1,6 @@
 -- Lines without faults: a shape, records, and spans.
 use Rattle.tabled_language.proofs.Common.{[], ◌++◌, ◌∙◌, ◌∷◌, ◌≡◌, EmptyLine, Fault, Grid, Line, List, None, Ok, Option, RecordLine, Rectangle, ShapeLine, Some, SpanLine, anchor_in, and_from, and_parts, ap, append-nil, ap₂, eq-eqb, false, fault_of, filter_map, filter_map-append, first_fault, has_place, is_in_place, lie_well, lies_inside, list_all-append, list_any, map, map-id, may_follow, meets, not_from_false, record_in, refl, shape_fault, span_fault, step_in, true, ℕ}
 use Rattle.tabled_language.proofs.LooseLines.{loose_place}
-use Rattle.tabled_language.proofs.BackToAnchors.{MeetNone, meet_none-push}
 
 -- what each of things says is picked
 pub picked : {A B : Type 0} (h : Line → Option B) (make : A → Line) (f : A → B) → ((x : A) → h (make x) ≡ Some (f x)) → (xs : List A) (rest : List Line) → filter_map h (map make xs ++ rest) ≡ map f xs ++ filter_map h rest
@@ -61,26 +60,6 @@ pub shape_fine : (g : Grid (List ℕ)) (rows : List (List (List ℕ))) (es : Lis
 shape_fine g rows es = quiet-cons (shape_fault g) [] (ShapeLine (Ok (g.rows, g.columns))) (map RecordLine rows ++ (map span es ++ EmptyLine ∷ [])) (rw (eq-eqb g.rows g.rows refl, eq-eqb g.columns g.columns refl) refl)
     (block (shape_fault g) RecordLine (λ earlier. Unit {0}) (λ earlier x kept. refl) (λ earlier x kept. tt) rows (map span es ++ EmptyLine ∷ []) (ShapeLine (Ok (g.rows, g.columns)) ∷ []) tt
     (λ later kept. block (shape_fault g) span (λ earlier. Unit {0}) (λ earlier x kept. refl) (λ earlier x kept. tt) es (EmptyLine ∷ []) later tt (λ last kept. refl)))
-
-place_found : (rows columns : ℕ) (done : List Rectangle) (e : Rectangle) → lies_inside rows columns e ≡ true → list_any (meets e) done ≡ false → has_place rows columns done e ≡ true
-place_found rows columns done e inside apart = and_from _ _ inside (not_from_false _ apart)
-
-spans_apart : (g : Grid (List ℕ)) (es done : List Rectangle) (rest earlier : List Line) → filter_map anchor_in earlier ≡ done → lie_well g.rows g.columns es ≡ true → MeetNone done es → ((later : List Line) → first_fault (span_fault g) later rest ≡ None) → first_fault (span_fault g) earlier (map span es ++ rest) ≡ None
-spans_apart g [] done rest earlier is well apart after = after earlier
-spans_apart g (e ∷ es) done rest earlier is well apart after =
-    let parts = and_parts _ _ well in
-    let others = and_parts _ _ parts.1 in
-    let place : has_place g.rows g.columns (filter_map anchor_in earlier) e ≡ true = ap (λ anchors. has_place g.rows g.columns anchors e) is ∙ place_found g.rows g.columns done e parts.0 apart.0 in
-    let more : filter_map anchor_in (earlier ++ span e ∷ []) ≡ done ++ e ∷ [] = filter_map-append anchor_in earlier (span e ∷ []) ∙ ap (λ anchors. anchors ++ e ∷ []) is in
-    quiet-cons (span_fault g) earlier (span e) (map span es ++ rest) (rw place refl)
-    (spans_apart g es (done ++ e ∷ []) rest (earlier ++ span e ∷ []) more others.1 (meet_none-push e done es others.0 apart.1) after)
-
--- each rectangle lies inside the table, and shares no cell with an earlier one
-pub spans_fine : (g : Grid (List ℕ)) (r c : ℕ) (rows : List (List (List ℕ))) (es : List Rectangle) → lie_well g.rows g.columns es ≡ true → MeetNone [] es → first_fault (span_fault g) [] (table r c rows es) ≡ None
-spans_fine g r c rows es well apart = block (span_fault g) RecordLine (λ earlier. filter_map anchor_in earlier ≡ []) (λ earlier x kept. refl)
-    (λ earlier x kept. filter_map-append anchor_in earlier (RecordLine x ∷ []) ∙ append-nil (filter_map anchor_in earlier) ∙ kept)
-    rows (map span es ++ EmptyLine ∷ []) (ShapeLine (Ok (r, c)) ∷ []) refl
-    (λ later none. spans_apart g es [] (EmptyLine ∷ []) later none well apart (λ last. refl))
 
 pub records_are : (r c : ℕ) (rows : List (List (List ℕ))) (es : List Rectangle) → filter_map record_in (table r c rows es) ≡ rows
 records_are r c rows es = picked record_in RecordLine (λ texts. texts) (λ texts. refl) rows (map span es ++ EmptyLine ∷ []) ∙ ap₂ (λ (xs ys : List (List (List ℕ))). xs ++ ys) (map-id rows) (passed record_in span (λ e. refl) es (EmptyLine ∷ [])) ∙ append-nil rows

@@ -1,10 +1,10 @@
 -- How a table is written.
 use Rattle.std.specs.Prelude.{◌≡◌, ℕ, List, [], ◌∷◌, ◌++◌, ◌==◌, map, codes, if◌then◌else◌}
-use Rattle.std.specs.FinMap.{entries}
 use Rattle.std.specs.List.{flat_map, join_with_byte}
 use Rattle.std.specs.Fmt.{decimal}
 use Rattle.tabled_grid.specs.Grid.{Grid}
-use Rattle.tabled_grid.specs.Spans.{Rectangle}
+use Rattle.tabled_grid.specs.Spans.{rectangles}
+use Rattle.tabled_grid.specs.declared.config.rectangle.Rectangle.{Rectangle}
 use Rattle.tabled_steps.specs.States.{State}
 
 -- a byte of a text as it stands in a word
@@ -27,9 +27,9 @@ tab_separated texts = join_with_byte 9 (map escaped texts)
 abbrev pub line : List (List ℕ) → List ℕ
 line texts = tab_separated texts ++ 10 ∷ []
 
--- the line of an anchor: its row and column, and its rectangle's height and width
+-- the line of a rectangle: the row and the column of its anchor, and its height and width
 abbrev pub span_line : Rectangle → List ℕ
-span_line e = line (codes "span" ∷ decimal e.0.row ∷ decimal e.0.col ∷ decimal e.1.height ∷ decimal e.1.width ∷ [])
+span_line e = line (codes "span" ∷ decimal e.first.row ∷ decimal e.first.col ∷ decimal e.size.height ∷ decimal e.size.width ∷ [])
 
 -- the lines of a table's shape, and then of its rows
 abbrev pub table_lines : Grid (List ℕ) → List ℕ
@@ -37,6 +37,6 @@ table_lines g =
     line (codes "shape" ∷ decimal g.rows ∷ decimal g.columns ∷ [])
     ++ flat_map (λ row. line (codes "row" ∷ row)) g.cells
 
--- a table's lines, and then those of its anchors, row by row
+-- a table's lines, and then those of its rectangles, row by row
 abbrev pub print : State → List ℕ
-print s = table_lines s.texts ++ flat_map span_line (entries s.spans)
+print s = table_lines s.texts ++ flat_map span_line (rectangles s.spans)

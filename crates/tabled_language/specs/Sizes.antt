@@ -1,7 +1,9 @@
 -- The words after `shape` and `span`.
-use Rattle.std.specs.Prelude.{ℕ, ◌==◌, ◌&&◌, if◌then◌else◌}
+use Rattle.std.specs.Prelude.{ℕ, if◌then◌else◌}
 use Rattle.tabled_grid.specs.Entity.{place}
-use Rattle.tabled_grid.specs.Spans.{Rectangle, sized}
+use Rattle.tabled_grid.specs.Spans.{is_cell, rectangle, sized}
+use Rattle.tabled_grid.specs.declared.config.rectangle.Rectangle.{Rectangle}
+use Rattle.tabled_grid.specs.declared.config.size.Size.{Size}
 use Rattle.tabled_language.specs.declared.fault.Fault.TheVariants.{NumberRange}
 use Rattle.tabled_language.specs.Words.{Reading, fails, gives, reads_extent, reads_size, then_reads}
 
@@ -9,10 +11,14 @@ use Rattle.tabled_language.specs.Words.{Reading, fails, gives, reads_extent, rea
 abbrev pub reads_shape : Reading (ℕ × ℕ)
 reads_shape = then_reads reads_size (λ rows. then_reads reads_size (λ columns. gives (rows, columns)))
 
--- a width after a height; one cell is no rectangle
-abbrev pub reads_width : ℕ → Reading ℕ
-reads_width height = then_reads reads_extent (λ width. if (height == 1) && (width == 1) then fails NumberRange else gives width)
+-- a size, unless it is that of one cell
+abbrev pub if_span : Size → Reading Size
+if_span size = if is_cell size then fails NumberRange else gives size
+
+-- a height and a width of more than one cell
+abbrev pub reads_span_size : Reading Size
+reads_span_size = then_reads reads_extent (λ height. then_reads reads_extent (λ width. if_span (sized height width)))
 
 -- a row and a column, and then a height and a width
 abbrev pub reads_anchor : Reading Rectangle
-reads_anchor = then_reads reads_size (λ row. then_reads reads_size (λ column. then_reads reads_extent (λ height. then_reads (reads_width height) (λ width. gives (place row column, sized height width)))))
+reads_anchor = then_reads reads_size (λ row. then_reads reads_size (λ column. then_reads reads_span_size (λ size. gives (rectangle (place row column) size))))

@@ -2,35 +2,35 @@
 use Rattle.std.specs.Prelude.{◌≡◌, ◌+◌, ◌<◌, ◌≤◌, ◌⊎◌, ℕ, List, None, Some, get_or, length}
 use Rattle.std.specs.BTreeMap.{BTreeMap, get}
 use Rattle.std.specs.Ordering.{nat_cmp}
-use Rattle.tabled_grid.specs.Spans.{Rectangle}
+use Rattle.tabled_grid.specs.declared.config.rectangle.Rectangle.{Rectangle}
 
 -- anchors stand in the order of their rows
 abbrev pub RowsRise : List Rectangle → Type 0
-RowsRise es = (k : ℕ) (d : Rectangle) → k + 1 < length es → (get_or es k d).0.row ≤ (get_or es (k + 1) d).0.row
+RowsRise es = (k : ℕ) (d : Rectangle) → k + 1 < length es → (get_or es k d).first.row ≤ (get_or es (k + 1) d).first.row
 
 -- the rectangle of an anchor ends above a row
 abbrev pub EndsAbove : ℕ → Rectangle → Type 0
-EndsAbove row e = e.0.row + e.1.height ≤ row
+EndsAbove row e = e.first.row + e.size.height ≤ row
 
 -- two rectangles share no column
 abbrev pub IsBeside : Rectangle → Rectangle → Type 0
-IsBeside e f = (f.0.col + f.1.width ≤ e.0.col) ⊎ (e.0.col + e.1.width ≤ f.0.col)
+IsBeside e f = (f.first.col + f.size.width ≤ e.first.col) ⊎ (e.first.col + e.size.width ≤ f.first.col)
 
 -- each rectangle stands by the column of its anchor
 abbrev pub AreKeyed : BTreeMap ℕ Rectangle → Type 0
-AreKeyed m = (q : ℕ) (f : Rectangle) → get nat_cmp m q ≡ Some f → f.0.col ≡ q
+AreKeyed m = (q : ℕ) (f : Rectangle) → get nat_cmp m q ≡ Some f → f.first.col ≡ q
 
 -- of two that reach a row the left one ends before the other
 abbrev pub AreBeside : ℕ → BTreeMap ℕ Rectangle → Type 0
-AreBeside row m = (q r : ℕ) (f g : Rectangle) → get nat_cmp m q ≡ Some f → get nat_cmp m r ≡ Some g → q < r → row < f.0.row + f.1.height → row < g.0.row + g.1.height → f.0.col + f.1.width ≤ r
+AreBeside row m = (q r : ℕ) (f g : Rectangle) → get nat_cmp m q ≡ Some f → get nat_cmp m r ≡ Some g → q < r → row < f.first.row + f.size.height → row < g.first.row + g.size.height → f.first.col + f.size.width ≤ r
 
 -- none that is kept and reaches an anchor's row shares a column with its rectangle
 abbrev pub IsClear : BTreeMap ℕ Rectangle → Rectangle → Type 0
-IsClear m e = (q : ℕ) (f : Rectangle) → get nat_cmp m q ≡ Some f → EndsAbove e.0.row f ⊎ IsBeside e f
+IsClear m e = (q : ℕ) (f : Rectangle) → get nat_cmp m q ≡ Some f → EndsAbove e.first.row f ⊎ IsBeside e f
 
 -- one that is kept reaches an anchor's row and shares a column with its rectangle
 abbrev pub IsMet : BTreeMap ℕ Rectangle → Rectangle → Type 0
-IsMet m e = (q : ℕ) × (f : Rectangle) × (get nat_cmp m q ≡ Some f) × (e.0.row < f.0.row + f.1.height) × (f.0.col < e.0.col + e.1.width) × (e.0.col < f.0.col + f.1.width)
+IsMet m e = (q : ℕ) × (f : Rectangle) × (get nat_cmp m q ≡ Some f) × (e.first.row < f.first.row + f.size.height) × (f.first.col < e.first.col + e.size.width) × (e.first.col < f.first.col + f.size.width)
 
 -- none begins before a column
 abbrev pub NoneBefore : BTreeMap ℕ Rectangle → ℕ → Type 0

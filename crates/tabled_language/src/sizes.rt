@@ -5,10 +5,10 @@ use crate::words::{Read, Words};
 use tabled_grid::config::{Position, Rectangle, Size};
 
 impl<'a> Words<'a> {
-    ghost use Rattle.std.specs.Prelude.{◌≡◌, ◌≤◌, ◌<◌, IfOk};
+    ghost use Rattle.std.specs.Prelude.{IfOk};
     ghost use Rattle.tabled_grid.specs.Spans.{IsSpanSize};
     ghost use Rattle.tabled_language.specs.Parsing.{Reads};
-    ghost use Rattle.tabled_language.specs.Sizes.{reads_anchor, reads_shape, reads_width};
+    ghost use Rattle.tabled_language.specs.Sizes.{reads_anchor, reads_shape, reads_span_size};
 
     /// How many rows and how many columns.
     pub(crate) fn shape(&mut self) -> Read<(usize, usize)>
@@ -22,24 +22,26 @@ impl<'a> Words<'a> {
     /// A row and a column, and then a height and a width.
     pub(crate) fn anchor(&mut self) -> Read<Rectangle>
         ensures read { Reads (λ anchor. anchor) reads_anchor self.old result self.new }
-        ensures size { IfOk result (λ anchor. IsSpanSize anchor.1) }
+        ensures size { IfOk result (λ anchor. IsSpanSize anchor.size) }
     {
         let row = self.size()?;
         let column = self.size()?;
-        let height = self.extent()?;
-        let width = self.width(height)?;
-        Ok((Position::new(row, column), Size { height, width }))
+        let first = Position::new(row, column);
+        let size = self.span_size()?;
+        Ok(Rectangle { first, size })
     }
 
-    /// A width after a height; one cell is no rectangle.
-    fn width(&mut self, height: usize) -> Read<usize>
-        ensures read { Reads (λ width. width) (reads_width height) self.old result self.new }
-        ensures size { IfOk result (λ width. (1 ≤ width) × (height ≡ 1 → 1 < width)) }
+    /// A height and a width of more than one cell.
+    fn span_size(&mut self) -> Read<Size>
+        ensures read { Reads (λ size. size) reads_span_size self.old result self.new }
+        ensures size { IfOk result IsSpanSize }
     {
+        let height = self.extent()?;
         let width = self.extent()?;
-        if height == 1 && width == 1 {
+        let size = Size { height, width };
+        if size.is_cell() {
             return Err(Fault::NumberRange.into());
         }
-        Ok(width)
+        Ok(size)
     }
 }

@@ -1,10 +1,9 @@
 //! What `span` lines say, and the merged cells that their anchors make.
 
 ghost use Rattle.std.specs.Prelude.{false, true, ◌≡◌, IfOk};
-ghost use Rattle.std.specs.FinMap.{from_entries, from_sorted};
-ghost use Rattle.std.specs.List.{AllByRecursion};
-ghost use Rattle.tabled_grid.specs.Spans.{AreAnchors, IsSpanSize, Rectangle, position_cmp};
-ghost use Rattle.tabled_language.specs.Placed.{IsFirstMisfit, fit_in};
+ghost use Rattle.tabled_grid.specs.Anchors.{lie_well};
+ghost use Rattle.tabled_grid.specs.Spans.{AreAnchors, map_of};
+ghost use Rattle.tabled_language.specs.Placed.{AreSpans, IsFirstMisfit, spans_of};
 
 use crate::fault::{Fault, ParseError};
 use crate::walk::have_places;
@@ -53,7 +52,7 @@ impl SpanLines {
 
     /// Adds the anchor that the line of a number says.
     pub(crate) fn push(&mut self, number: usize, anchor: Rectangle) -> Result<(), AllocError>
-        requires { IsSpanSize anchor.1 }
+        requires { IsSpanSize anchor.size }
         ensures anchors { IfOk result (λ _. self.new.anchors ≡ self.old.anchors ++ anchor ∷ []) }
         ensures numbers { IfOk result (λ _. self.new.numbers ≡ self.old.numbers ++ number ∷ []) }
     {
@@ -100,13 +99,13 @@ fn fit(
     rows: usize,
     columns: usize,
 ) -> Result<bool, AllocError>
-    requires { AllByRecursion (λ (e : Rectangle). IsSpanSize e.1) anchors.now }
-    ensures fit { IfOk result (λ fit. fit ≡ fit_in rows columns anchors.now) }
-    ensures made { IfOk result (λ fit. fit ≡ true → AreAnchors sorted.new.items × (from_sorted {R = position_cmp} sorted.new.items ≡ from_entries anchors.now)) }
+    requires { AreSpans anchors.now }
+    ensures fit { IfOk result (λ fit. fit ≡ lie_well rows columns anchors.now) }
+    ensures made { IfOk result (λ fit. fit ≡ true → AreAnchors sorted.new.items × (map_of sorted.new.items ≡ spans_of anchors.now)) }
 {
     sorted.clear();
     sorted.extend_from_slice(anchors)?;
-    sorted.sort_unstable_by_key(|anchor| anchor.0);
+    sorted.sort_unstable_by_key(|anchor| anchor.first);
     have_places(alloc, sorted, rows, columns)
 }
 
@@ -118,8 +117,8 @@ fn first_misfit(
     rows: usize,
     columns: usize,
 ) -> Result<usize, AllocError>
-    requires sizes { AllByRecursion (λ (e : Rectangle). IsSpanSize e.1) anchors.now }
-    requires misfits { fit_in rows columns anchors.now ≡ false }
+    requires sizes { AreSpans anchors.now }
+    requires misfits { lie_well rows columns anchors.now ≡ false }
     ensures { IfOk result (λ misfit. IsFirstMisfit rows columns anchors.now misfit) }
 {
     // The first `fitting` anchors fit, and the first `failing` do not.

@@ -1,15 +1,13 @@
 //! Whether rectangles lie inside a table and apart, told by one walk over their anchors, row by row.
 
 ghost use Rattle.std.specs.Prelude.{◌≡◌, ◌+◌, ◌^◌, ◌<◌, IfOk, MatchBool, MatchOption, nat_le};
-ghost use Rattle.std.specs.List.{AllByRecursion};
-ghost use Rattle.tabled_grid.specs.Anchors.{lies_inside};
-ghost use Rattle.tabled_grid.specs.Spans.{IsSpanSize, Rectangle};
-ghost use Rattle.tabled_language.specs.Placed.{fit_in};
+ghost use Rattle.tabled_grid.specs.Anchors.{lie_well};
+ghost use Rattle.tabled_language.specs.Placed.{AreSpans};
 ghost use Rattle.tabled_language.specs.Walk.{AreBeside, AreKeyed, IsClear, IsLastBefore, IsLeft, IsMet, NoneBefore, RowsRise};
 
 use std::alloc::{AllocError, Global};
 use std::collections::BTreeMap;
-use tabled_grid::config::{Rectangle, Size};
+use tabled_grid::config::Rectangle;
 
 /// Says whether all rectangles lie inside a table and no two share a cell.
 ///
@@ -23,15 +21,15 @@ pub(crate) fn have_places(
     columns: usize,
 ) -> Result<bool, AllocError>
     requires rising { RowsRise anchors.now }
-    requires sizes { AllByRecursion (λ (e : Rectangle). IsSpanSize e.1) anchors.now }
-    ensures { IfOk result (λ fit. fit ≡ fit_in rows columns anchors.now) }
+    requires sizes { AreSpans anchors.now }
+    ensures { IfOk result (λ well. well ≡ lie_well rows columns anchors.now) }
 {
     let mut reaching = BTreeMap::new(alloc);
     for anchor in anchors {
-        if !is_inside(*anchor, rows, columns) || !is_clear(&mut reaching, *anchor) {
+        if !anchor.is_inside(rows, columns) || !is_clear(&mut reaching, *anchor) {
             return Ok(false);
         }
-        reaching.insert(anchor.0.col, *anchor)?;
+        reaching.insert(anchor.first.col, *anchor)?;
     }
     Ok(true)
 }
@@ -39,18 +37,18 @@ pub(crate) fn have_places(
 /// Says whether no rectangle that reaches the row of an anchor shares a column with it. Takes some away that
 /// end above.
 fn is_clear(reaching: &mut BTreeMap<usize, Rectangle>, anchor: Rectangle) -> bool
-    requires fits { anchor.0.col + anchor.1.width < 2 ^ 64 }
+    requires fits { anchor.first.col + anchor.size.width < 2 ^ 64 }
     requires keyed { AreKeyed reaching.old }
-    requires beside { AreBeside anchor.0.row reaching.old }
-    ensures left { IsLeft anchor.0.row reaching.old reaching.new }
+    requires beside { AreBeside anchor.first.row reaching.old }
+    ensures left { IsLeft anchor.first.row reaching.old reaching.new }
     ensures clear { MatchBool result (IsClear reaching.old anchor) (IsMet reaching.old anchor) }
 {
-    let end = anchor.0.col + anchor.1.width;
+    let end = anchor.first.col + anchor.size.width;
     while let Some(near) = last_before(reaching, end) {
-        if !ends_by(near.0.row, near.1.height, anchor.0.row) {
-            return ends_by(near.0.col, near.1.width, anchor.0.col);
+        if !ends_by(near.first.row, near.size.height, anchor.first.row) {
+            return ends_by(near.first.col, near.size.width, anchor.first.col);
         }
-        reaching.remove(&near.0.col);
+        reaching.remove(&near.first.col);
     }
     true
 }
@@ -63,14 +61,6 @@ fn last_before(reaching: &BTreeMap<usize, Rectangle>, column: usize) -> Option<R
         Some((_, anchor)) => Some(*anchor),
         None => None,
     }
-}
-
-/// Says whether the rectangle of an anchor lies inside a table.
-fn is_inside(anchor: Rectangle, rows: usize, columns: usize) -> bool
-    ensures { result ≡ lies_inside rows columns anchor }
-{
-    let (first, Size { height, width }) = anchor;
-    ends_by(first.row, height, rows) && ends_by(first.col, width, columns)
 }
 
 /// Says whether n indexes from one on end at an index or before it.
