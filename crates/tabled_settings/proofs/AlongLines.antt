@@ -9,10 +9,10 @@ across_is Columns p i = refl
 
 -- a place is in a rectangle
 pub record IsAlong (axis : Axis) (e : Rectangle) (p : Position) : Type 0 where
-  pub first : line_of axis e.0 ≤ line_of axis p
-  pub last : line_of axis p < line_of axis e.0 + count_of axis e.1.height e.1.width
-  pub from : line_of (across axis) e.0 ≤ line_of (across axis) p
-  pub to : line_of (across axis) p < line_of (across axis) e.0 + count_of (across axis) e.1.height e.1.width
+  pub first : line_of axis e.first ≤ line_of axis p
+  pub last : line_of axis p < line_of axis e.first + count_of axis e.size.height e.size.width
+  pub from : line_of (across axis) e.first ≤ line_of (across axis) p
+  pub to : line_of (across axis) p < line_of (across axis) e.first + count_of (across axis) e.size.height e.size.width
 
 pub is_along : (axis : Axis) (e : Rectangle) (p : Position) → In e p → IsAlong axis e p
 is_along Rows e p h = record { first = h.top; last = h.bottom; from = h.left; to = h.right }
@@ -24,10 +24,10 @@ is_in Columns e p h = record { top = h.from; bottom = h.to; left = h.first; righ
 
 -- a rectangle lies inside a table
 pub record LiesAlong (axis : Axis) (rows columns : ℕ) (e : Rectangle) : Type 0 where
-  pub lines : line_of axis e.0 + count_of axis e.1.height e.1.width ≤ count_of axis rows columns
-  pub across : line_of (across axis) e.0 + count_of (across axis) e.1.height e.1.width ≤ count_of (across axis) rows columns
+  pub lines : line_of axis e.first + count_of axis e.size.height e.size.width ≤ count_of axis rows columns
+  pub across : line_of (across axis) e.first + count_of (across axis) e.size.height e.size.width ≤ count_of (across axis) rows columns
 
-pub lies_along : (axis : Axis) (rows columns : ℕ) (e : Rectangle) → e.0.row + e.1.height ≤ rows → e.0.col + e.1.width ≤ columns → LiesAlong axis rows columns e
+pub lies_along : (axis : Axis) (rows columns : ℕ) (e : Rectangle) → e.first.row + e.size.height ≤ rows → e.first.col + e.size.width ≤ columns → LiesAlong axis rows columns e
 lies_along Rows rows columns e high far = record { lines = high; across = far }
 lies_along Columns rows columns e high far = record { lines = far; across = high }
 

@@ -1,6 +1,6 @@
 -- Merged cells when lines are put into the opposite order, once or twice.
 use Rattle.std.proofs.lemmas.Grind.{common_steps}
-use Rattle.tabled_settings.proofs.Common.{◌+◌, ◌-◌, ◌<◌, ◌∙◌, ◌≡◌, ◌≤◌, ◌⊎◌, Axis, Bool, Carries, Fits, HasArea, LeadsBack, Offset, Places, Position, Rectangle, Rows, Size, SpanMap, Top, ap, arith, carried, carried_back, carried_if, count_of, in_line, limit_end, line_of, lines_from, refl, reversed, reversed_index, reverses, rotated, subst, sym, true, ℕ}
+use Rattle.tabled_settings.proofs.Common.{◌+◌, ◌-◌, ◌<◌, ◌∙◌, ◌≡◌, ◌≤◌, ◌⊎◌, Axis, Bool, Carries, Fits, HasArea, LeadsBack, Offset, Places, Position, Rectangle, Rows, Size, SpanMap, Top, ap, arith, carried, carried_back, carried_if, count_of, in_line, limit_end, line_of, lines_from, rectangle, refl, reversed, reversed_index, reverses, rotated, subst, sym, true, ℕ}
 use Rattle.tabled_grid.specs.declared.config.offset.Offset.TheVariants.{End}
 use Rattle.tabled_settings.proofs.AlongLines.{lies_along}
 use Rattle.tabled_settings.proofs.MirroredParts.{part_mirrored}
@@ -13,20 +13,20 @@ module _ (axis : Axis) (old : ℕ → ℕ) (rows columns : ℕ) (mirrors : (i : 
   places = lines_from axis old rows columns
 
   -- each rectangle inside is carried to the one as far from the other end
-  pub lines_carry : (a : Position) (s : Size) → a.row + s.height ≤ rows → a.col + s.width ≤ columns → Carries places (a, s) (in_line axis a (count_of axis rows columns - (line_of axis a + count_of axis s.height s.width)), s)
+  pub lines_carry : (a : Position) (s : Size) → a.row + s.height ≤ rows → a.col + s.width ≤ columns → Carries places (rectangle a s) (rectangle (in_line axis a (count_of axis rows columns - (line_of axis a + count_of axis s.height s.width))) s)
   lines_carry a s high far =
       let n = count_of axis rows columns in
       let inside : (i : ℕ) → 0 ≤ i → i < n → old i ≡ 0 + n - 1 - i = λ i low below. omega (arith, mirrors i below, below) in
       let outside : (i : ℕ) → i < n → (i < 0) ⊎ (n ≤ i) → old i ≡ i = λ i below none. absurd (omega (arith, below, none)) in
-      let whole = part_mirrored axis old rows columns 0 n inside outside a s high far (omega arith) (omega arith) (lies_along axis rows columns (a, s) high far).lines in
+      let whole = part_mirrored axis old rows columns 0 n inside outside a s high far (omega arith) (omega arith) (lies_along axis rows columns (rectangle a s) high far).lines in
       let same : 0 + (n - (line_of axis a + count_of axis s.height s.width)) ≡ n - (line_of axis a + count_of axis s.height s.width) = omega arith in
       (rw same at whole)
 
   leads_back : LeadsBack places places
   leads_back = lines_lead_back axis old rows columns (λ i h. let far = mirrors i h in let within : old i < count_of axis rows columns = omega (arith, far) in (within, omega (arith, far, mirrors (old i) within)))
 
-  moved : (a : Position) (s : Size) → HasArea (a, s) → a.row + s.height ≤ rows → a.col + s.width ≤ columns → (f : Rectangle) × Carries places (a, s) f × HasArea f
-  moved a s full high far = ((in_line axis a (count_of axis rows columns - (line_of axis a + count_of axis s.height s.width)), s), lines_carry a s high far, record { height = full.height; width = full.width })
+  moved : (a : Position) (s : Size) → HasArea (rectangle a s) → a.row + s.height ≤ rows → a.col + s.width ≤ columns → (f : Rectangle) × Carries places (rectangle a s) f × HasArea f
+  moved a s full high far = (rectangle (in_line axis a (count_of axis rows columns - (line_of axis a + count_of axis s.height s.width))) s), lines_carry a s high far, record { height = full.height; width = full.width })
 
   twice : (m : SpanMap) → Fits m rows columns → carried places rows columns (carried places rows columns m) ≡ m
   twice m fits = carried_back places places leads_back m rows columns fits (record { each = λ a s h. let size = fits.sizes.each a s h in let room = fits.inside a s h in moved a s (record { height = size.height; width = size.width }) room.0 room.1 })

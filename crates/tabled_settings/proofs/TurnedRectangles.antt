@@ -1,6 +1,6 @@
 -- Where the rectangles of a table go that is turned, and merged cells turned to the left and back.
 use Rattle.std.proofs.lemmas.Grind.{common_steps}
-use Rattle.tabled_settings.proofs.Common.{◌+◌, ◌-◌, ◌<◌, ◌≡◌, ◌≤◌, ◌⊎◌, Axis, Bottom, Carries, Columns, Fits, HasArea, In, Left, Position, Rectangle, Right, Rotate, Rows, SpanMap, Takes, Top, across, across_is, ap, ap₂, arith, carried, carried_back, count_of, inl, inr, line_is, line_of, place, place_in, quarter_of, refl, rotated, sized, subst, sym, upside_down, ℕ}
+use Rattle.tabled_settings.proofs.Common.{◌+◌, ◌-◌, ◌<◌, ◌≡◌, ◌≤◌, ◌⊎◌, Axis, Bottom, Carries, Columns, Fits, HasArea, In, Left, Position, Rectangle, Right, Rotate, Rows, SpanMap, Takes, Top, across, across_is, ap, ap₂, arith, carried, carried_back, count_of, inl, inr, line_is, line_of, place, place_in, quarter_of, rectangle, refl, rotated, sized, subst, sym, upside_down, ℕ}
 use Rattle.tabled_settings.proofs.AlongLines.{LiesAlong, is_along, is_in, lies_along}
 use Rattle.tabled_settings.proofs.MirroredSpans.{lines_carry}
 use Rattle.tabled_settings.proofs.Rotated.{taken_turned, takes_turned, as_wide, left_leads_back}
@@ -8,21 +8,21 @@ use Rattle.tabled_settings.proofs.ThereAndBack.{lines_lead_back}
 
 -- the rectangle that one inside the table goes to
 abbrev pub turned : Rotate → ℕ → ℕ → Rectangle → Rectangle
-turned Left rows columns e = (place (columns - (e.0.col + e.1.width)) e.0.row, sized e.1.width e.1.height)
-turned Right rows columns e = (place e.0.col (rows - (e.0.row + e.1.height)), sized e.1.width e.1.height)
-turned Top rows columns e = (place (rows - (e.0.row + e.1.height)) e.0.col, e.1)
-turned Bottom rows columns e = (place (rows - (e.0.row + e.1.height)) e.0.col, e.1)
+turned Left rows columns e = rectangle (place (columns - (e.first.col + e.size.width)) e.first.row) (sized e.size.width e.size.height)
+turned Right rows columns e = rectangle (place e.first.col (rows - (e.first.row + e.size.height))) (sized e.size.width e.size.height)
+turned Top rows columns e = rectangle (place (rows - (e.first.row + e.size.height)) e.first.col) e.size
+turned Bottom rows columns e = rectangle (place (rows - (e.first.row + e.size.height)) e.first.col) e.size
 
 -- it is known by its place
-pub turned_left : (rows columns : ℕ) (e : Rectangle) (p : Position) → p.row ≡ columns - (e.0.col + e.1.width) → p.col ≡ e.0.row → (p, sized e.1.width e.1.height) ≡ turned Left rows columns e
-turned_left rows columns e p row col = ap (λ (x : Position). (x, sized e.1.width e.1.height)) (ap₂ place row col)
+pub turned_left : (rows columns : ℕ) (e : Rectangle) (p : Position) → p.row ≡ columns - (e.first.col + e.size.width) → p.col ≡ e.first.row → rectangle p (sized e.size.width e.size.height) ≡ turned Left rows columns e
+turned_left rows columns e p row col = ap (λ (x : Position). rectangle x (sized e.size.width e.size.height)) (ap₂ place row col)
 
-pub turned_right : (rows columns : ℕ) (e : Rectangle) (p : Position) → p.row ≡ e.0.col → p.col ≡ rows - (e.0.row + e.1.height) → (p, sized e.1.width e.1.height) ≡ turned Right rows columns e
-turned_right rows columns e p row col = ap (λ (x : Position). (x, sized e.1.width e.1.height)) (ap₂ place row col)
+pub turned_right : (rows columns : ℕ) (e : Rectangle) (p : Position) → p.row ≡ e.first.col → p.col ≡ rows - (e.first.row + e.size.height) → rectangle p (sized e.size.width e.size.height) ≡ turned Right rows columns e
+turned_right rows columns e p row col = ap (λ (x : Position). rectangle x (sized e.size.width e.size.height)) (ap₂ place row col)
 
-pub turned_over : (turn : Rotate) (rows columns : ℕ) (e : Rectangle) (p : Position) → (turn ≡ Top) ⊎ (turn ≡ Bottom) → p.row ≡ rows - (e.0.row + e.1.height) → p.col ≡ e.0.col → (p, e.1) ≡ turned turn rows columns e
-turned_over turn rows columns e p (inl is) row col = rw is (ap (λ (x : Position). (x, e.1)) (ap₂ place row col))
-turned_over turn rows columns e p (inr is) row col = rw is (ap (λ (x : Position). (x, e.1)) (ap₂ place row col))
+pub turned_over : (turn : Rotate) (rows columns : ℕ) (e : Rectangle) (p : Position) → (turn ≡ Top) ⊎ (turn ≡ Bottom) → p.row ≡ rows - (e.first.row + e.size.height) → p.col ≡ e.first.col → rectangle p e.size ≡ turned turn rows columns e
+turned_over turn rows columns e p (inl is) row col = rw is (ap (λ (x : Position). rectangle x e.size) (ap₂ place row col))
+turned_over turn rows columns e p (inr is) row col = rw is (ap (λ (x : Position). rectangle x e.size) (ap₂ place row col))
 
 pub turned_full : (turn : Rotate) (rows columns : ℕ) (e : Rectangle) → HasArea e → HasArea (turned turn rows columns e)
 turned_full Left rows columns e full = record { height = full.width; width = full.height }
@@ -32,16 +32,16 @@ turned_full Bottom rows columns e full = record { height = full.height; width = 
 
 -- by its lines, where rows and columns are exchanged and then those along an axis are reversed
 record IsTurned (axis : Axis) (rows columns : ℕ) (e f : Rectangle) : Type 0 where
-  line : line_of axis f.0 ≡ count_of (across axis) rows columns - (line_of (across axis) e.0 + count_of (across axis) e.1.height e.1.width)
-  beside : line_of (across axis) f.0 ≡ line_of axis e.0
-  lines : count_of axis f.1.height f.1.width ≡ count_of (across axis) e.1.height e.1.width
-  wide : count_of (across axis) f.1.height f.1.width ≡ count_of axis e.1.height e.1.width
+  line : line_of axis f.first ≡ count_of (across axis) rows columns - (line_of (across axis) e.first + count_of (across axis) e.size.height e.size.width)
+  beside : line_of (across axis) f.first ≡ line_of axis e.first
+  lines : count_of axis f.size.height f.size.width ≡ count_of (across axis) e.size.height e.size.width
+  wide : count_of (across axis) f.size.height f.size.width ≡ count_of axis e.size.height e.size.width
 
 is_turned : (axis : Axis) (rows columns : ℕ) (e : Rectangle) → IsTurned axis rows columns e (turned (quarter_of axis) rows columns e)
 is_turned Rows rows columns e = record { line = refl; beside = refl; lines = refl; wide = refl }
 is_turned Columns rows columns e = record { line = refl; beside = refl; lines = refl; wide = refl }
 
-module _ (axis : Axis) (rows columns : ℕ) (e : Rectangle) (high : e.0.row + e.1.height ≤ rows) (far : e.0.col + e.1.width ≤ columns) where
+module _ (axis : Axis) (rows columns : ℕ) (e : Rectangle) (high : e.first.row + e.size.height ≤ rows) (far : e.first.col + e.size.width ≤ columns) where
   abbrev n : ℕ
   n = count_of (across axis) rows columns
 
@@ -82,16 +82,16 @@ module _ (axis : Axis) (rows columns : ℕ) (e : Rectangle) (high : e.0.row + e.
   quarter_carries : Carries (rotated (quarter_of axis) rows columns) e (turned (quarter_of axis) rows columns e)
   quarter_carries = record { all = all; only = only; from = back }
 
-upside_down_carries : (rows columns : ℕ) (e : Rectangle) → e.0.row + e.1.height ≤ rows → e.0.col + e.1.width ≤ columns → Carries (upside_down rows columns) e (turned Top rows columns e)
-upside_down_carries rows columns e high far = lines_carry Rows (λ i. rows - 1 - i) rows columns (λ i h. omega (arith, h)) e.0 e.1 high far
+upside_down_carries : (rows columns : ℕ) (e : Rectangle) → e.first.row + e.size.height ≤ rows → e.first.col + e.size.width ≤ columns → Carries (upside_down rows columns) e (turned Top rows columns e)
+upside_down_carries rows columns e high far = lines_carry Rows (λ i. rows - 1 - i) rows columns (λ i h. omega (arith, h)) e.first e.size high far
 
-pub turned_carries : (turn : Rotate) (rows columns : ℕ) (e : Rectangle) → e.0.row + e.1.height ≤ rows → e.0.col + e.1.width ≤ columns → Carries (rotated turn rows columns) e (turned turn rows columns e)
+pub turned_carries : (turn : Rotate) (rows columns : ℕ) (e : Rectangle) → e.first.row + e.size.height ≤ rows → e.first.col + e.size.width ≤ columns → Carries (rotated turn rows columns) e (turned turn rows columns e)
 turned_carries Left rows columns e high far = quarter_carries Rows rows columns e high far
 turned_carries Right rows columns e high far = quarter_carries Columns rows columns e high far
 turned_carries Top rows columns e high far = upside_down_carries rows columns e high far
 turned_carries Bottom rows columns e high far = upside_down_carries rows columns e high far
 
-pub turned_to : (turn : Rotate) (rows columns : ℕ) (e f : Rectangle) → e.0.row + e.1.height ≤ rows → e.0.col + e.1.width ≤ columns → f ≡ turned turn rows columns e → Carries (rotated turn rows columns) e f
+pub turned_to : (turn : Rotate) (rows columns : ℕ) (e f : Rectangle) → e.first.row + e.size.height ≤ rows → e.first.col + e.size.width ≤ columns → f ≡ turned turn rows columns e → Carries (rotated turn rows columns) e f
 turned_to turn rows columns e f high far is = subst (λ (h : Rectangle). Carries (rotated turn rows columns) e h) (sym is) (turned_carries turn rows columns e high far)
 
 -- a cell that goes to a place is a cell of the table
@@ -105,9 +105,9 @@ turned_from Top rows columns p q t = upside_down_from rows columns p q t
 turned_from Bottom rows columns p q t = upside_down_from rows columns p q t
 
 -- a rectangle of which each cell goes to a place lies inside the table
-pub turned_inside : (turn : Rotate) (rows columns : ℕ) (e f : Rectangle) → HasArea e → Carries (rotated turn rows columns) e f → (e.0.row + e.1.height ≤ rows) × (e.0.col + e.1.width ≤ columns)
+pub turned_inside : (turn : Rotate) (rows columns : ℕ) (e f : Rectangle) → HasArea e → Carries (rotated turn rows columns) e f → (e.first.row + e.size.height ≤ rows) × (e.first.col + e.size.width ≤ columns)
 turned_inside turn rows columns e f full c =
-    let q : Position = place (e.0.row + e.1.height - 1) (e.0.col + e.1.width - 1) in
+    let q : Position = place (e.first.row + e.size.height - 1) (e.first.col + e.size.width - 1) in
     let last : In e q = record { top = omega (arith, full.height); bottom = omega (arith, full.height); left = omega (arith, full.width); right = omega (arith, full.width) } in
     let p = c.all q last in
     let at = turned_from turn rows columns p.0 q p.1 in
@@ -118,4 +118,4 @@ pub left_then_right_spans : (rows columns : ℕ) → 0 < rows → 0 < columns �
 left_then_right_spans rows columns tall wide m fits =
     subst (λ (n : ℕ). carried (rotated Right columns rows) columns n (carried (rotated Left rows columns) rows columns m) ≡ m) (as_wide columns rows wide)
     (carried_back (rotated Left rows columns) (rotated Right columns rows) (left_leads_back rows columns) m rows columns fits
-    (record { each = λ a s h. let size = fits.sizes.each a s h in let room = fits.inside a s h in (turned Left rows columns (a, s), turned_carries Left rows columns (a, s) room.0 room.1, turned_full Left rows columns (a, s) (record { height = size.height; width = size.width })) }))
+    (record { each = λ a s h. let size = fits.sizes.each a s h in let room = fits.inside a s h in (turned Left rows columns (rectangle a s), turned_carries Left rows columns (rectangle a s) room.0 room.1, turned_full Left rows columns (rectangle a s) (record { height = size.height; width = size.width })) }))

@@ -179,7 +179,10 @@ impl Moves for Mirror {
 
 impl MovesRectangles for Mirror {
     fn new_rectangle(&self, of: Rectangle) -> Option<Rectangle> {
-        let (first, Size { height, width }) = of;
+        let Rectangle {
+            first,
+            size: Size { height, width },
+        } = of;
         let count = self.axis.count_of(self.rows, self.columns);
         if self.end > count || first.row + height > self.rows || first.col + width > self.columns {
             return image_of(self, of);
@@ -191,7 +194,10 @@ impl MovesRectangles for Mirror {
         }
         if self.start <= line && past <= self.end {
             let place = self.axis.in_line(first, self.start + (self.end - past));
-            return Some((place, Size { height, width }));
+            return Some(Rectangle {
+                first: place,
+                size: of.size,
+            });
         }
         image_of(self, of)
     }

@@ -98,7 +98,10 @@ impl Moves for Rotation {
 
 impl MovesRectangles for Rotation {
     fn new_rectangle(&self, of: Rectangle) -> Option<Rectangle> {
-        let (first, Size { height, width }) = of;
+        let Rectangle {
+            first,
+            size: Size { height, width },
+        } = of;
         let bottom = first.row + height;
         let right = first.col + width;
         if bottom > self.rows || right > self.columns {
@@ -108,11 +111,14 @@ impl MovesRectangles for Rotation {
             height: width,
             width: height,
         };
-        Some(match self.rotate {
+        let (first, size) = match self.rotate {
             Rotate::Left => (Position::new(self.columns - right, first.row), turned),
             Rotate::Right => (Position::new(first.col, self.rows - bottom), turned),
-            Rotate::Top | Rotate::Bottom => { (Position::new(self.rows - bottom, first.col), of.1) }
-        })
+            Rotate::Top | Rotate::Bottom => {
+                (Position::new(self.rows - bottom, first.col), of.size)
+            }
+        };
+        Some(Rectangle { first, size })
     }
 }
 

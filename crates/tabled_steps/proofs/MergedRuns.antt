@@ -1,5 +1,5 @@
 -- The runs that are listed are those that are merged.
-use Rattle.tabled_steps.proofs.Common.{◌++◌, ◌+◌, ◌-◌, ◌<◌, ◌∙◌, ◌≡◌, ◌≤◌, ◌⊎◌, Axis, Bool, Columns, Entity, Grid, IsInside, IsNamed, IsRun, Joins, List, MergesRuns, None, Option, Position, Rectangle, Rows, RunAt, RunsFrom, Some, SpanMap, and_from, and_parts, ap, append_assoc, ap₂, arith, block-is, cond, false, false≢true, flat_map, flat_map-append, further, get, inl, inr, lt-ltb, ltb-true, map, none-some, option_eq, place, places, positions_exact, positions_total, range_with_len, refl, same_Some, same_map, size_of_run, subst, suc, sym, true, with_sizes, zero, ℕ}
+use Rattle.tabled_steps.proofs.Common.{◌++◌, ◌+◌, ◌-◌, ◌<◌, ◌∙◌, ◌≡◌, ◌≤◌, ◌⊎◌, Axis, Bool, Columns, Entity, Grid, IsInside, IsNamed, IsRun, Joins, List, MergesRuns, None, Option, Position, Rectangle, Rows, RunAt, RunsFrom, Some, SpanMap, and_from, and_parts, ap, append_assoc, ap₂, arith, block-is, cond, false, false≢true, flat_map, flat_map-append, further, get, inl, inr, lt-ltb, ltb-true, map, none-some, option_eq, place, places, positions_exact, positions_total, range_with_len, rectangle, refl, same_Some, same_map, size_of_run, subst, suc, sym, true, with_sizes, zero, ℕ}
 use Rattle.std.specs.Str.{bytes_eq}
 use Rattle.tabled_grid.specs.Midway.{In}
 use Rattle.tabled_grid.specs.Spans.{sized}
@@ -149,7 +149,7 @@ module _ (axis : Axis) (entity : Entity) (g : Grid (List ℕ)) (m : SpanMap) whe
 
   -- the cells that are named lie in the table
   abbrev table : Rectangle
-  table = (place 0 0, sized g.rows g.columns)
+  table = rectangle (place 0 0) (sized g.rows g.columns)
 
   within : (p : Position) → IsNamed entity g p → In table p
   within p h = record { top = omega arith; bottom = omega (arith, h.inside.row); left = omega arith; right = omega (arith, h.inside.col) }

@@ -5,9 +5,10 @@ use Rattle.std.specs.Option.{option_eq}
 use Rattle.std.specs.Str.{bytes_eq}
 use Rattle.tabled_grid.specs.Entity.{block, names, place}
 use Rattle.tabled_grid.specs.Grid.{Grid, cell_at}
-use Rattle.tabled_grid.specs.Spans.{Rectangle, SpanMap}
+use Rattle.tabled_grid.specs.Spans.{SpanMap, rectangle}
 use Rattle.tabled_grid.specs.declared.config.entity.Entity.{Entity}
 use Rattle.tabled_grid.specs.declared.config.position.Position.{Position}
+use Rattle.tabled_grid.specs.declared.config.rectangle.Rectangle.{Rectangle}
 use Rattle.tabled_grid.specs.declared.records.axis.Axis.{Axis}
 use Rattle.tabled_grid.specs.declared.records.axis.Axis.TheVariants.{Rows, Columns}
 use Rattle.tabled_spans.specs.Runs.{further, is_free, size_of_run}
@@ -32,7 +33,7 @@ run_from (suc most) axis e g m p = if joins axis e g m p then suc (run_from most
 
 -- the anchor and the size of the run that begins at a place, if one does
 abbrev pub run_at : Axis → Entity → Grid (List ℕ) → SpanMap → Position → List Rectangle
-run_at axis e g m p = if joins axis e g m p && not (is_joined axis e g m p) then (p, size_of_run axis (run_from (g.rows + g.columns) axis e g m p)) ∷ [] else []
+run_at axis e g m p = if joins axis e g m p && not (is_joined axis e g m p) then rectangle p (size_of_run axis (run_from (g.rows + g.columns) axis e g m p)) ∷ [] else []
 
 -- the anchors and the sizes of all runs among the cells of an entity, row by row
 abbrev pub runs : Axis → Entity → Grid (List ℕ) → SpanMap → List Rectangle

@@ -1,4 +1,4 @@
-use Rattle.tabled_settings.proofs.Common.{Left, Right, Some, ap, arith, carries_one, sized}
+use Rattle.tabled_settings.proofs.Common.{Left, Right, Some, ap, arith, carries_one, rectangle, sized}
 use Rattle.tabled_settings.proofs.TurnedRectangles.{turned_inside, turned_left, turned_over, turned_right, turned_to}
 use Rattle.tabled_settings.proofs.rotate.RotationMovesRectangles.new_rectangle.Goals as goal
 
@@ -17,7 +17,7 @@ returns-in-Left-clause-carries c =
     rw c.in-Left.is (turned_to Left t.rows t.columns c.args.of _ (omega (arith, c.if-bottom-self.false)) (omega (arith, c.if-right-self.false)) (turned_left t.rows t.columns c.args.of c.new.result c.new.ensures.row c.new.ensures.col))
 
 pub returns-in-Left-clause-finds : goal.returns-in-Left-clause-finds
-returns-in-Left-clause-finds c = λ f carries whole. ap Some (carries_one _ c.args.of (c.new.result, sized c.args.of.1.width c.args.of.1.height) f (record { height = c.requires.full.width; width = c.requires.full.height }) whole (returns-in-Left-clause-carries c) carries)
+returns-in-Left-clause-finds c = λ f carries whole. ap Some (carries_one _ c.args.of (rectangle c.new.result (sized c.args.of.size.width c.args.of.size.height)) f (record { height = c.requires.full.width; width = c.requires.full.height }) whole (returns-in-Left-clause-carries c) carries)
 
 pub returns-in-Right-clause-carries : goal.returns-in-Right-clause-carries
 returns-in-Right-clause-carries c =
@@ -25,7 +25,7 @@ returns-in-Right-clause-carries c =
     rw c.in-Right.is (turned_to Right t.rows t.columns c.args.of _ (omega (arith, c.if-bottom-self.false)) (omega (arith, c.if-right-self.false)) (turned_right t.rows t.columns c.args.of c.new-in-Right.result c.new-in-Right.ensures.row c.new-in-Right.ensures.col))
 
 pub returns-in-Right-clause-finds : goal.returns-in-Right-clause-finds
-returns-in-Right-clause-finds c = λ f carries whole. ap Some (carries_one _ c.args.of (c.new-in-Right.result, sized c.args.of.1.width c.args.of.1.height) f (record { height = c.requires.full.width; width = c.requires.full.height }) whole (returns-in-Right-clause-carries c) carries)
+returns-in-Right-clause-finds c = λ f carries whole. ap Some (carries_one _ c.args.of (rectangle c.new-in-Right.result (sized c.args.of.size.width c.args.of.size.height)) f (record { height = c.requires.full.width; width = c.requires.full.height }) whole (returns-in-Right-clause-carries c) carries)
 
 pub returns-in-Top-clause-carries : goal.returns-in-Top-clause-carries
 returns-in-Top-clause-carries c =
@@ -33,4 +33,4 @@ returns-in-Top-clause-carries c =
     turned_to t.rotate t.rows t.columns c.args.of _ (omega (arith, c.if-bottom-self.false)) (omega (arith, c.if-right-self.false)) (turned_over t.rotate t.rows t.columns c.args.of c.new-in-Top.result c.in-Top.is c.new-in-Top.ensures.row c.new-in-Top.ensures.col)
 
 pub returns-in-Top-clause-finds : goal.returns-in-Top-clause-finds
-returns-in-Top-clause-finds c = λ f carries whole. ap Some (carries_one _ c.args.of (c.new-in-Top.result, c.args.of.1) f (record { height = c.requires.full.height; width = c.requires.full.width }) whole (returns-in-Top-clause-carries c) carries)
+returns-in-Top-clause-finds c = λ f carries whole. ap Some (carries_one _ c.args.of (rectangle c.new-in-Top.result c.args.of.size) f (record { height = c.requires.full.height; width = c.requires.full.width }) whole (returns-in-Top-clause-carries c) carries)
