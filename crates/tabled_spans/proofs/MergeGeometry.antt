@@ -1,9 +1,9 @@
 -- Rectangles lie well after runs are merged where they did before, and a second merge finds no runs.
-use Rattle.tabled_spans.proofs.Common.{◌+◌, ◌-◌, ◌<◌, ◌∙◌, ◌≡◌, ◌≤◌, ◌⊎◌, Axis, Columns, Entity, Fits, Grid, In, IsInside, IsRun, IsSpanSize, List, MergesRuns, Position, Rows, Size, Some, SpanMap, and_parts, ap, ap₂, arith, cases_lt, eqb-true, further, get, holds-from, holds-true, inl, inr, is_free, place, same_Some, size_at, size_at-some, size_of_run, subst, sym, true, visible, ℕ}
+use Rattle.tabled_spans.proofs.Common.{◌+◌, ◌-◌, ◌<◌, ◌∙◌, ◌≡◌, ◌≤◌, ◌⊎◌, Axis, Columns, Entity, Fits, Grid, In, IsInside, IsRun, IsSpanSize, List, MergesRuns, Position, Rows, Size, Some, SpanMap, and_parts, ap, ap₂, arith, cases_lt, eqb-true, further, get, holds-from, holds-true, inl, inr, is_free, place, rectangle, same_Some, size_at, size_at-some, size_of_run, subst, sym, true, visible, ℕ}
 use Rattle.tabled_spans.proofs.Runs.{further_more, further_none}
 
 -- a place of a run's rectangle is n cells from its first
-cell_of : (axis : Axis) (a p : Position) (many : ℕ) → In (a, size_of_run axis many) p → (k : ℕ) × (k < many) × (p ≡ further axis k a)
+cell_of : (axis : Axis) (a p : Position) (many : ℕ) → In (rectangle a (size_of_run axis many)) p → (k : ℕ) × (k < many) × (p ≡ further axis k a)
 cell_of Rows a p many h = (p.row - a.row, omega (arith, h.top, h.bottom), ap₂ place (omega (arith, h.top)) (omega (arith, h.left, h.right)))
 cell_of Columns a p many h = (p.col - a.col, omega (arith, h.left, h.right), ap₂ place (omega (arith, h.top, h.bottom)) (omega (arith, h.left)))
 
@@ -38,7 +38,7 @@ module _ (axis : Axis) (entity : Entity) (g : Grid (List ℕ)) (m : SpanMap) whe
       let step : further axis 1 (further axis (l - k - 1) b) ≡ further axis (l - k) b = further_more axis (l - k - 1) (l - k) b (omega arith) in
       first.begins (further axis (l - k - 1) b) (step ∙ sym at) (second.joins (l - k - 1) (omega arith))
 
-  same_first : (a b p : Position) (many n : ℕ) → IsRun axis entity g m a many → IsRun axis entity g m b n → In (a, size_of_run axis many) p → In (b, size_of_run axis n) p → a ≡ b
+  same_first : (a b p : Position) (many n : ℕ) → IsRun axis entity g m a many → IsRun axis entity g m b n → In (rectangle a (size_of_run axis many)) p → In (rectangle b (size_of_run axis n)) p → a ≡ b
   same_first a b p many n first second ha hb = by (cell_of axis a p many ha) (cell_of axis b p n hb)
     where
       by : (k : ℕ) × (k < many) × (p ≡ further axis k a) → (l : ℕ) × (l < n) × (p ≡ further axis l b) → a ≡ b
@@ -50,7 +50,7 @@ module _ (axis : Axis) (entity : Entity) (g : Grid (List ℕ)) (m : SpanMap) whe
           either (inr x) (inr y) = further_back axis a b k l (sym is ∙ js) y ∙ ap (λ d. further axis d b) (omega arith) ∙ further_none axis b
 
   -- an old rectangle holds no cell of a run
-  no_old : (rows columns : ℕ) (a b p : Position) (many : ℕ) (t : Size) → Fits m rows columns → IsRun axis entity g m a many → get m b ≡ Some t → In (a, size_of_run axis many) p → In (b, t) p → ⊥
+  no_old : (rows columns : ℕ) (a b p : Position) (many : ℕ) (t : Size) → Fits m rows columns → IsRun axis entity g m a many → get m b ≡ Some t → In (rectangle a (size_of_run axis many)) p → In (rectangle b t) p → ⊥
   no_old rows columns a b p many t fits run has ha hb =
       let at = cell_of axis a p many ha in
       let parts = and_parts _ _ (subst (λ x. is_free m x ≡ true) (sym at.2) (run_cell a many at.0 run at.1).free) in
@@ -82,7 +82,7 @@ module _ (axis : Axis) (entity : Entity) (g : Grid (List ℕ)) (m : SpanMap) whe
     ]
 
     pub fits_merged : Fits n g.rows g.columns
-    fits_merged = record { sizes = record { each = λ a s has. size a s (anchor a s has) }; inside = λ a s has. inside a s (anchor a s has); apart = λ a b s t p ha hb ia ib. apart a b s t p (holds-true (a, s) p ia) (holds-true (b, t) p ib) (anchor a s ha) (anchor b t hb) }
+    fits_merged = record { sizes = record { each = λ a s has. size a s (anchor a s has) }; inside = λ a s has. inside a s (anchor a s has); apart = λ a b s t p ha hb ia ib. apart a b s t p (holds-true (rectangle a s) p ia) (holds-true (rectangle b t) p ib) (anchor a s ha) (anchor b t hb) }
       where
         size : (a : Position) (s : Size) → Anchored a s → IsSpanSize s
         size a s (of_run many run e) = subst IsSpanSize (sym e) (size_is_more axis many run.some)
@@ -92,8 +92,8 @@ module _ (axis : Axis) (entity : Entity) (g : Grid (List ℕ)) (m : SpanMap) whe
         inside a s (of_run many run e) = rw e (run_inside a many run)
         inside a s (of_old has) = fits.inside a s has
 
-        apart : (a b : Position) (s t : Size) (p : Position) → In (a, s) p → In (b, t) p → Anchored a s → Anchored b t → a ≡ b
+        apart : (a b : Position) (s t : Size) (p : Position) → In (rectangle a s) p → In (rectangle b t) p → Anchored a s → Anchored b t → a ≡ b
         apart a b s t p ha hb (of_run many run e) (of_run k other f) = same_first a b p many k run other (rw e at ha) (rw f at hb)
         apart a b s t p ha hb (of_run many run e) (of_old has) = absurd (no_old g.rows g.columns a b p many t fits run has (rw e at ha) hb)
         apart a b s t p ha hb (of_old has) (of_run many run e) = absurd (no_old g.rows g.columns b a p many s fits run has (rw e at hb) ha)
-        apart a b s t p ha hb (of_old has) (of_old had) = fits.apart a b s t p has had (holds-from (a, s) p ha) (holds-from (b, t) p hb)
+        apart a b s t p ha hb (of_old has) (of_old had) = fits.apart a b s t p has had (holds-from (rectangle a s) p ha) (holds-from (rectangle b t) p hb)

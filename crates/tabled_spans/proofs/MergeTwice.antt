@@ -1,5 +1,5 @@
 -- A second merge finds no runs, and a merge of a map without rectangles finds those of equal texts.
-use Rattle.tabled_spans.proofs.Common.{◌+◌, ◌-◌, ◌<◌, ◌∙◌, ◌≡◌, ◌≢◌, ◌≤◌, ◌⊎◌, Axis, Columns, Entity, Grid, In, IsNamed, IsRun, Joins, List, MergesRuns, Position, Rows, Size, Some, SpanMap, and_from, and_parts, ap, ap₂, arith, cases_lt, cell_at, common_steps, eq-eqb, eqb-true, false_from_ne_true, false≢true, further, get, get-empty, hidden-from, hidden_by, inl, inr, is_free, is_hidden, is_visible, none-some, not_from_false, not_from_true, place, position_cmp, positions_exact, positions_total, refl, same_Some, same_map, size_at, size_at-some, size_of_run, sized, subst, suc, sym, true, unwrap_or, zero, ℕ}
+use Rattle.tabled_spans.proofs.Common.{◌+◌, ◌-◌, ◌<◌, ◌∙◌, ◌≡◌, ◌≢◌, ◌≤◌, ◌⊎◌, Axis, Columns, Entity, Grid, In, IsNamed, IsRun, Joins, List, MergesRuns, Position, Rows, Size, Some, SpanMap, and_from, and_parts, ap, ap₂, arith, cases_lt, cell_at, common_steps, eq-eqb, eqb-true, false_from_ne_true, false≢true, further, get, get-empty, hidden-from, hidden_by, inl, inr, is_free, is_hidden, is_visible, none-some, not_from_false, not_from_true, place, position_cmp, positions_exact, positions_total, rectangle, refl, same_Some, same_map, size_at, size_at-some, size_of_run, sized, subst, suc, sym, true, unwrap_or, zero, ℕ}
 use Rattle.std.specs.FinMap as map
 use Rattle.tabled_spans.proofs.MergeGeometry.{run_cell}
 use Rattle.tabled_spans.proofs.Runs.{further_back, further_none, same_run}
@@ -54,10 +54,10 @@ module _ (axis : Axis) (entity : Entity) (g : Grid (List ℕ)) (m : SpanMap) whe
     hidden_still : (p : Position) → is_hidden m p ≡ true → is_hidden n p ≡ true
     hidden_still p h = let it = hidden_by m p h in by it.anchor it.size it.has it.holds it.other (merged.each it.anchor)
       where
-        by : (a : Position) (s : Size) → get m a ≡ Some s → In (a, s) p → a ≢ p → ((k : ℕ) × IsRun axis entity g m a k × (get n a ≡ Some (size_of_run axis k))) ⊎ (((k : ℕ) → IsRun axis entity g m a k → ⊥) × (get n a ≡ get m a)) → is_hidden n p ≡ true
+        by : (a : Position) (s : Size) → get m a ≡ Some s → In (rectangle a s) p → a ≢ p → ((k : ℕ) × IsRun axis entity g m a k × (get n a ≡ Some (size_of_run axis k))) ⊎ (((k : ℕ) → IsRun axis entity g m a k → ⊥) × (get n a ≡ get m a)) → is_hidden n p ≡ true
         by a s has holds other (inl (k, run, is)) =
             let one : s ≡ sized 1 1 = sym (size_at-some m a s has) ∙ free_size m a (first_free a k run) in
-            let h1 = subst (λ (t : Size). In (a, t) p) one holds in
+            let h1 = subst (λ (t : Size). In (rectangle a t) p) one holds in
             absurd (other (ap₂ place (omega (arith, h1.top, h1.bottom)) (omega (arith, h1.left, h1.right))))
         by a s has holds other (inr (never, is)) = hidden-from n a p s (is ∙ has) holds other
 
@@ -70,7 +70,7 @@ module _ (axis : Axis) (entity : Entity) (g : Grid (List ℕ)) (m : SpanMap) whe
     was_joined : (p : Position) → Joins axis entity g n p → Joins axis entity g m p
     was_joined p j = record { here = j.here; next = j.next; free = was_free p j.free; next_free = was_free (further axis 1 p) j.next_free; same = j.same }
 
-    covers : (x : Axis) (a : Position) (many k : ℕ) → 2 ≤ many → k < many → In (a, size_of_run x many) (further x k a)
+    covers : (x : Axis) (a : Position) (many k : ℕ) → 2 ≤ many → k < many → In (rectangle a (size_of_run x many)) (further x k a)
     covers Rows a many k some h = record { top = omega arith; bottom = omega arith; left = omega arith; right = omega arith }
     covers Columns a many k some h = record { top = omega arith; bottom = omega arith; left = omega arith; right = omega arith }
 
@@ -85,7 +85,7 @@ module _ (axis : Axis) (entity : Entity) (g : Grid (List ℕ)) (m : SpanMap) whe
         by : (b : ℕ) × IsRun axis entity g m a b × (get n a ≡ Some (size_of_run axis b)) → (0 < k) ⊎ (k ≤ 0) → ⊥
         by (b, other, has) (inl l) =
             let long : k < b = omega (arith, h, same_run axis entity g m a many b run other) in
-            let hidden : is_hidden n p ≡ true = hidden-from n a p (size_of_run axis b) has (subst (In (a, size_of_run axis b)) is (covers axis a b k other.some long)) (λ e. apart_from axis a k l (e ∙ sym is)) in
+            let hidden : is_hidden n p ≡ true = hidden-from n a p (size_of_run axis b) has (subst (In (rectangle a (size_of_run axis b))) is (covers axis a b k other.some long)) (λ e. apart_from axis a k l (e ∙ sym is)) in
             false≢true (sym (not_from_true _ hidden) ∙ (and_parts _ _ free).0)
         by (b, other, has) (inr l) =
             let here : a ≡ p = sym (further_none axis a) ∙ ap (λ i. further axis i a) (omega arith) ∙ is in

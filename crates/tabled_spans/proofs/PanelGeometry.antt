@@ -1,5 +1,5 @@
 -- Rectangles lie well after a panel where they did before it.
-use Rattle.tabled_spans.proofs.Common.{◌+◌, ◌<◌, ◌∙◌, ◌≡◌, ◌≤◌, ◌⊎◌, Axis, Columns, Fits, Grid, In, List, None, Panels, Position, Rows, Size, Some, SpanMap, across, and_parts, ap, ap₂, arith, cases_Bool, cases_lt, cases_place, cond, cond-true, count_along, eqb-true, false, false_from_ne_true, fits_below, fits_beside, fits_with, get, get-remove, has_room, inl, inr, is_crossed, leb-true, line_is_free, nat_eq, not-true, place_in, positions_exact, positions_total, same_map, shifted, sized, subst, sym, tied, with_line_at, with_panel, with_size, with_size-other, ℕ}
+use Rattle.tabled_spans.proofs.Common.{◌+◌, ◌<◌, ◌∙◌, ◌≡◌, ◌≤◌, ◌⊎◌, Axis, Columns, Fits, Grid, In, List, None, Panels, Position, Rows, Size, Some, SpanMap, across, and_parts, ap, ap₂, arith, cases_Bool, cases_lt, cases_place, cond, cond-true, count_along, eqb-true, false, false_from_ne_true, fits_below, fits_beside, fits_with, get, get-remove, has_room, inl, inr, is_crossed, leb-true, line_is_free, nat_eq, not-true, place_in, positions_exact, positions_total, rectangle, same_map, shifted, sized, subst, sym, tied, with_line_at, with_panel, with_size, with_size-other, ℕ}
 use borrow.Author.Tests.{ltb-true}
 use Rattle.tabled_spans.proofs.PanelMaps.{no_anchor}
 
@@ -11,7 +11,7 @@ one_cell m p absent = same_map positions_total positions_exact (with_size m p (s
 ])
 
 -- a size over cells that no rectangle has, which may be that of one cell
-pub fits_over : (m : SpanMap) (p : Position) (size : Size) (rows columns : ℕ) → get m p ≡ None → 1 ≤ size.height → 1 ≤ size.width → p.row + size.height ≤ rows → p.col + size.width ≤ columns → ((a q : Position) (s : Size) → get m a ≡ Some s → In (a, s) q → In (p, size) q → a ≡ p) → Fits m rows columns → Fits (with_size m p size) rows columns
+pub fits_over : (m : SpanMap) (p : Position) (size : Size) (rows columns : ℕ) → get m p ≡ None → 1 ≤ size.height → 1 ≤ size.width → p.row + size.height ≤ rows → p.col + size.width ≤ columns → ((a q : Position) (s : Size) → get m a ≡ Some s → In (rectangle a s) q → In (rectangle p size) q → a ≡ p) → Fits m rows columns → Fits (with_size m p size) rows columns
 fits_over m p size rows columns absent high wide down across free fits = either (cases_lt 1 size.height) (cases_lt 1 size.width)
   where
     more : (1 < size.height) ⊎ (1 < size.width) → Fits (with_size m p size) rows columns

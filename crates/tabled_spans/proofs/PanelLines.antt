@@ -1,7 +1,6 @@
 -- A line put in, with a text in its first cell, and the way back.
-use Rattle.tabled_spans.proofs.Common.{[], ◌+◌, ◌-◌, ◌∙◌, ◌∷◌, ◌≡◌, ◌≤◌, AllByRecursion, AreBlanks, Axis, Columns, Grid, IsEmptyWithoutRows, IsEven, List, Panels, PutsIn, Rows, SpanMap, WritesText, across, ap, ap₂, arith, common_steps, cond, count_along, eqb-true, false, false_from_ne_true, get_or, insert, is_crossed, length, lt-ltb, map, nat_eq, place, place_in, refl, remove, set, shifted, suc, with_cell, with_column, with_row, with_span, without_column, without_line, zero, zip, ℕ}
+use Rattle.tabled_spans.proofs.Common.{[], ◌+◌, ◌-◌, ◌∙◌, ◌∷◌, ◌≡◌, ◌≤◌, AllByRecursion, AreBlanks, Axis, Columns, Grid, InsertsLine, IsEmptyWithoutRows, IsEven, List, Panels, PutsIn, Rows, SpanMap, WritesText, across, ap, ap₂, arith, common_steps, cond, count_along, eqb-true, false, false_from_ne_true, get_or, insert, is_crossed, length, lt-ltb, map, nat_eq, place, place_in, refl, remove, set, shifted, suc, with_cell, with_column, with_row, with_span, without_column, without_line, zero, zip, ℕ}
 use Rattle.std.specs.Prelude.{replicate}
-use Rattle.tabled_spans.specs.PanelSteps.{InsertsLine}
 use Rattle.tabled_spans.proofs.PanelMaps.{panel_merged}
 
 module _ {X : Type 0} where

@@ -1,5 +1,5 @@
 -- The places that an entity names rise, row by row.
-use Rattle.tabled_spans.proofs.Common.{[], ◌++◌, ◌+◌, ◌-◌, ◌<◌, ◌∷◌, AllByRecursion, Bool, Earlier, Entity, List, Ordering, Position, Rectangle, T, all-append, arith, below_all, both, cond, false, filter, flat_map, from_earlier, inl, inr, inside, is_lt, is_sorted, map, names, place, position_cmp, range_with_len, refl, row_places, sized, subst, suc, sym, true, zero, ℕ}
+use Rattle.tabled_spans.proofs.Common.{[], ◌++◌, ◌+◌, ◌-◌, ◌<◌, ◌∷◌, AllByRecursion, AreSorted, Below, Bool, Earlier, Entity, List, Ordering, Position, Rectangle, T, all-append, arith, both, cond, false, filter, flat_map, from_earlier, inl, inr, inside, is_lt, map, names, place, range_with_len, rectangle, refl, row_places, sized, subst, suc, sym, true, zero, ℕ}
 use Rattle.tabled_select.proofs.Sifted.{all-filter}
 
 -- each place comes before all that follow
@@ -9,13 +9,13 @@ Rise (p ∷ ps) = AllByRecursion (Earlier p) ps × Rise ps
 
 -- places of one cell each
 abbrev pub ones : List Position → List Rectangle
-ones ps = map (λ (p : Position). (p, sized 1 1)) ps
+ones ps = map (λ (p : Position). rectangle p (sized 1 1)) ps
 
-below_ones : (k : Position) (ps : List Position) → AllByRecursion (Earlier k) ps → T (below_all position_cmp k (ones ps))
+below_ones : (k : Position) (ps : List Position) → AllByRecursion (Earlier k) ps → Below k (ones ps)
 below_ones k [] all = tt
 below_ones k (p ∷ ps) all = both _ _ (subst (λ (o : Ordering). T (is_lt o)) (sym (from_earlier k p all.0)) tt) (below_ones k ps all.1)
 
-sorted_ones : (ps : List Position) → Rise ps → T (is_sorted position_cmp (ones ps))
+sorted_ones : (ps : List Position) → Rise ps → AreSorted (ones ps)
 sorted_ones [] rise = tt
 sorted_ones (p ∷ ps) rise = both _ _ (below_ones p ps rise.0) (sorted_ones ps rise.1)
 
@@ -51,5 +51,5 @@ rise_rows : (a n c d : ℕ) → Rise (flat_map (row_places c d) (range_with_len 
 rise_rows a zero c d = tt
 rise_rows a (suc n) c d = rise-append (row_places c d a) _ (rise_row a c (d - c)) (rise_rows (a + 1) n c d) (each_row a c (d - c) _ (λ p h. all_rows p (a + 1) n c d h))
 
-pub sorted_inside : (e : Entity) (rows columns : ℕ) → T (is_sorted position_cmp (ones (inside e rows columns)))
+pub sorted_inside : (e : Entity) (rows columns : ℕ) → AreSorted (ones (inside e rows columns))
 sorted_inside e rows columns = sorted_ones _ (rise-filter (names e) _ (rise_rows 0 (rows - 0) 0 columns))

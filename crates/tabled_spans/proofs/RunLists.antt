@@ -1,5 +1,5 @@
 -- The order of places, row by row, and the map in which runs that are listed are rectangles.
-use Rattle.tabled_spans.proofs.Common.{[], ◌&&◌, ◌+◌, ◌<◌, ◌==◌, ◌∙◌, ◌∷◌, ◌≡◌, ◌≤◌, ◌⊎◌, AllByRecursion, Axis, Before, Columns, Entity, Grid, IsNamed, IsOfRun, IsRun, IsSizeAt, List, MergesRuns, Position, Rectangle, Rows, RunsFrom, Size, Some, SpanMap, and_left, ap, ap₂, arith, cases_lt, cases_place, common_steps, cond, false, find, inl, inr, ne_eqb, none-some, place, position_cmp, size_of_run, subst, sym, untied, with_sizes, ℕ}
+use Rattle.tabled_spans.proofs.Common.{[], ◌+◌, ◌<◌, ◌∙◌, ◌∷◌, ◌≡◌, ◌≤◌, ◌⊎◌, AllByRecursion, Axis, Before, Columns, Entity, Grid, IsNamed, IsOfRun, IsRun, IsSizeAt, List, MergesRuns, Position, Rectangle, Rows, RunsFrom, Size, Some, SpanMap, and_left, ap, ap₂, arith, cases_lt, cases_place, common_steps, cond, false, find_at, inl, inr, is_cell, ne_eqb, none-some, place, size_of_run, subst, sym, untied, with_sizes, ℕ}
 use Rattle.tabled_spans.proofs.Runs.{further_none}
 use Rattle.tabled_spans.proofs.SetSizes.{get-with_sizes, set_or}
 
@@ -29,7 +29,7 @@ pub next_row : (i j left : ℕ) (p : Position) → Before i j p → Before (i + 
 next_row i j left p (inl above) = inl (omega arith)
 next_row i j left p (inr h) = inl (omega (arith, h.0))
 
-not_one : (axis : Axis) (many : ℕ) → 2 ≤ many → (((size_of_run axis many).height == 1) && ((size_of_run axis many).width == 1)) ≡ false
+not_one : (axis : Axis) (many : ℕ) → 2 ≤ many → is_cell (size_of_run axis many) ≡ false
 not_one Rows many two = and_left _ _ (ne_eqb many 1 (λ e. omega (arith, e, two)))
 not_one Columns many two = ne_eqb many 1 (λ e. omega (arith, e, two))
 
@@ -39,18 +39,18 @@ module _ (axis : Axis) (entity : Entity) (g : Grid (List ℕ)) (m : SpanMap) whe
   begins_named p n run = subst (IsNamed entity g) (further_none axis p) (run.joins 0 (omega (arith, run.some))).here
 
   -- its size is that of a cell or more
-  of_run : (x : Axis) (anchor : Rectangle) (many : ℕ) → 2 ≤ many → anchor.1 ≡ size_of_run x many → IsSizeAt anchor
+  of_run : (x : Axis) (anchor : Rectangle) (many : ℕ) → 2 ≤ many → anchor.size ≡ size_of_run x many → IsSizeAt anchor
   of_run Rows anchor many some is = record { height = rw is (omega (arith, some)); width = rw is (omega arith) }
   of_run Columns anchor many some is = record { height = rw is (omega arith); width = rw is (omega (arith, some)) }
 
   pub sizes_full : (es : List Rectangle) → AllByRecursion (IsOfRun axis entity g m) es → AllByRecursion IsSizeAt es
   sizes_full es each = all_then {Q = IsSizeAt} (λ anchor it. of_run axis anchor it.0 it.1.some it.2) es each
 
-  entry_of : (es : List Rectangle) → AllByRecursion (IsOfRun axis entity g m) es → (p : Position) (s : Size) → find position_cmp p es ≡ Some s → (many : ℕ) × IsRun axis entity g m p many
+  entry_of : (es : List Rectangle) → AllByRecursion (IsOfRun axis entity g m) es → (p : Position) (s : Size) → find_at p es ≡ Some s → (many : ℕ) × IsRun axis entity g m p many
   entry_of [] each p s is = absurd (none-some s is)
-  entry_of (e ∷ es) each p s is = elim (cases_place p e.0) [
+  entry_of (e ∷ es) each p s is = elim (cases_place p e.first) [
     | inl same ↦ (each.0.0, subst (λ x. IsRun axis entity g m x each.0.0) (sym same) each.0.1)
-    | inr other ↦ entry_of es each.1 p s (sym (ap (λ b. cond b (Some e.1) (find position_cmp p es)) (untied p e.0 other)) ∙ is)
+    | inr other ↦ entry_of es each.1 p s (sym (ap (λ b. cond b (Some e.size) (find_at p es)) (untied p e.first other)) ∙ is)
   ]
 
   pub runs_merged : (es : List Rectangle) → RunsFrom axis entity g m 0 0 es → MergesRuns axis entity g m (with_sizes m es)

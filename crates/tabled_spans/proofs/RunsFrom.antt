@@ -1,6 +1,5 @@
 -- Lists of the runs from a place on, row by row.
-use Rattle.tabled_spans.proofs.Common.{[], ◌+◌, ◌∙◌, ◌∷◌, ◌≡◌, ◌≢◌, ◌≤◌, AllByRecursion, Axis, Before, Entity, Grid, In, IsNamed, IsRun, List, Position, Rectangle, RunAt, RunsFrom, Some, SpanMap, ap, arith, below_all, both, cases_place, common_steps, cond, find, from_earlier, inl, inr, is_eq, place, position_cmp, refl, size_of_run, subst, tied, true, untied, ℕ}
-use Rattle.std.proofs.Common.{T}
+use Rattle.tabled_spans.proofs.Common.{[], ◌+◌, ◌∙◌, ◌∷◌, ◌≡◌, ◌≢◌, ◌≤◌, AllByRecursion, Axis, Before, Below, Entity, Grid, In, IsNamed, IsRun, List, Position, Rectangle, RunAt, RunsFrom, Some, SpanMap, ap, arith, both, cases_place, common_steps, cond, find_at, from_earlier, inl, inr, is_eq, place, position_cmp, rectangle, refl, size_of_run, subst, tied, true, untied, ℕ}
 use Rattle.tabled_spans.proofs.RunLists.{all_then, begins_named, in_row, next_row, none_before, one_more, split_last}
 use Rattle.tabled_spans.proofs.Runs.{same_run}
 
@@ -12,37 +11,37 @@ not_itself : (i j : ℕ) → Before i j (place i j) → ⊥
 not_itself i j (inl above) = omega (arith, above)
 not_itself i j (inr h) = omega (arith, h.1)
 
-below_after : (i j : ℕ) (es : List Rectangle) → AllByRecursion (λ (e : Rectangle). Before i (j + 1) e.0 → ⊥) es → T (below_all position_cmp (place i j) es)
+below_after : (i j : ℕ) (es : List Rectangle) → AllByRecursion (λ (e : Rectangle). Before i (j + 1) e.first → ⊥) es → Below (place i j) es
 below_after i j [] after = tt
-below_after i j (e ∷ es) after = both _ _ (rw (from_earlier (place i j) e.0 (is_after i j e.0 after.0)) tt) (below_after i j es after.1)
+below_after i j (e ∷ es) after = both _ _ (rw (from_earlier (place i j) e.first (is_after i j e.first after.0)) tt) (below_after i j es after.1)
 
 module _ (axis : Axis) (entity : Entity) (g : Grid (List ℕ)) (m : SpanMap) where
   module _ (block : Rectangle) (within : (p : Position) → IsNamed entity g p → In block p) where
     -- no run begins below the block
-    pub none_below : (i j : ℕ) → block.0.row + block.1.height ≤ i → RunsFrom axis entity g m i j []
+    pub none_below : (i j : ℕ) → block.first.row + block.size.height ≤ i → RunsFrom axis entity g m i j []
     none_below i j high = record { sorted = tt; from = tt; each = tt; all = λ p n run h. absurd (h (inl (let at = within p (begins_named axis entity g m p n run) in omega (arith, high, at.bottom)))) }
 
     -- those from a row on are those from the end of the row before on
-    pub from_end : (i j : ℕ) (es : List Rectangle) → block.0.col + block.1.width ≤ j → RunsFrom axis entity g m (i + 1) block.0.col es → RunsFrom axis entity g m i j es
+    pub from_end : (i j : ℕ) (es : List Rectangle) → block.first.col + block.size.width ≤ j → RunsFrom axis entity g m (i + 1) block.first.col es → RunsFrom axis entity g m i j es
     from_end i j es wide so_far = record {
       sorted = so_far.sorted;
-      from = all_then {Q = λ (e : Rectangle). Before i j e.0 → ⊥} (λ e never h. never (next_row i j block.0.col e.0 h)) es so_far.from;
+      from = all_then {Q = λ (e : Rectangle). Before i j e.first → ⊥} (λ e never h. never (next_row i j block.first.col e.first h)) es so_far.from;
       each = so_far.each;
-      all = λ p n run never. so_far.all p n run (λ h. let at = within p (begins_named axis entity g m p n run) in never (in_row i j block.0.col p at.left (omega (arith, at.right, wide)) h));
+      all = λ p n run never. so_far.all p n run (λ h. let at = within p (begins_named axis entity g m p n run) in never (in_row i j block.first.col p at.left (omega (arith, at.right, wide)) h));
     }
 
     -- those from the block's first cell on are all
-    pub from_first : (i : ℕ) (es : List Rectangle) → i ≤ block.0.row → RunsFrom axis entity g m i block.0.col es → RunsFrom axis entity g m 0 0 es
+    pub from_first : (i : ℕ) (es : List Rectangle) → i ≤ block.first.row → RunsFrom axis entity g m i block.first.col es → RunsFrom axis entity g m 0 0 es
     from_first i es high so_far = record {
       sorted = so_far.sorted;
-      from = all_then {Q = λ (e : Rectangle). Before 0 0 e.0 → ⊥} (λ e never h. none_before e.0 h) es so_far.from;
+      from = all_then {Q = λ (e : Rectangle). Before 0 0 e.first → ⊥} (λ e never h. none_before e.first h) es so_far.from;
       each = so_far.each;
       all = λ p n run never. so_far.all p n run (λ h. let at = within p (begins_named axis entity g m p n run) in elim h [ inl above ↦ omega (arith, above, high, at.top) | inr left ↦ omega (arith, left.1, at.left) ]);
     }
 
   module _ (i j : ℕ) (es : List Rectangle) (so_far : RunsFrom axis entity g m i (j + 1) es) where
-    still_from : AllByRecursion (λ (e : Rectangle). Before i j e.0 → ⊥) es
-    still_from = all_then {Q = λ (e : Rectangle). Before i j e.0 → ⊥} (λ e never h. never (one_more i j e.0 h)) es so_far.from
+    still_from : AllByRecursion (λ (e : Rectangle). Before i j e.first → ⊥) es
+    still_from = all_then {Q = λ (e : Rectangle). Before i j e.first → ⊥} (λ e never h. never (one_more i j e.first h)) es so_far.from
 
     -- a run that begins from the place on begins after it, where it doesn't begin at it
     begins_after : (p : Position) → p ≢ place i j → (Before i j p → ⊥) → Before i (j + 1) p → ⊥
@@ -58,7 +57,7 @@ module _ (axis : Axis) (entity : Entity) (g : Grid (List ℕ)) (m : SpanMap) whe
     }
 
     -- one begins there
-    pub run_put : (many : ℕ) → 2 ≤ many → RunAt axis entity g m (place i j) many → RunsFrom axis entity g m i j ((place i j, size_of_run axis many) ∷ es)
+    pub run_put : (many : ℕ) → 2 ≤ many → RunAt axis entity g m (place i j) many → RunsFrom axis entity g m i j (rectangle (place i j) (size_of_run axis many) ∷ es)
     run_put many two found = record {
       sorted = both _ _ (below_after i j es so_far.from) so_far.sorted;
       from = (not_itself i j, still_from);
@@ -66,7 +65,7 @@ module _ (axis : Axis) (entity : Entity) (g : Grid (List ℕ)) (m : SpanMap) whe
       all = λ p n run never. elim (cases_place p (place i j)) [
         | inl e ↦
             let same = same_run axis entity g m (place i j) many n (found.is two) (subst (λ x. IsRun axis entity g m x n) e run) in
-            ap (λ b. cond b (Some (size_of_run axis many)) (find position_cmp p es)) (subst (λ x. is_eq (position_cmp p x) ≡ true) e (tied p)) ∙ ap (λ k. Some (size_of_run axis k)) same
-        | inr other ↦ ap (λ b. cond b (Some (size_of_run axis many)) (find position_cmp p es)) (untied p (place i j) other) ∙ so_far.all p n run (begins_after p other never)
+            ap (λ b. cond b (Some (size_of_run axis many)) (find_at p es)) (subst (λ x. is_eq (position_cmp p x) ≡ true) e (tied p)) ∙ ap (λ k. Some (size_of_run axis k)) same
+        | inr other ↦ ap (λ b. cond b (Some (size_of_run axis many)) (find_at p es)) (untied p (place i j) other) ∙ so_far.all p n run (begins_after p other never)
       ];
     }

@@ -1,36 +1,36 @@
 -- Sizes that are set at rising places, and what spans make of them.
-use Rattle.tabled_spans.proofs.Common.{[], ◌++◌, ◌+◌, ◌-◌, ◌<◌, ◌∙◌, ◌∷◌, ◌≡◌, ◌≢◌, ◌≤◌, Axis, Bool, Columns, Less, List, Position, Rectangle, Rows, Size, SpanMap, T, across, ap, append_assoc, are_visible, arith, below_all, both, cases_Bool, change_at, column_span-is, common_steps, count_of, cover_in, false, grown_each, halves, if◌then◌else◌, inl, inr, is_eq, is_sorted, less, line_of, min, position_cmp, positions_total, refl, resized, row_span-is, size_at, size_at-with_size-other, sized, subst, sym, tied_itself, true, with_size, with_sizes, with_span, with_visible_span, ℕ}
+use Rattle.tabled_spans.proofs.Common.{[], ◌++◌, ◌+◌, ◌-◌, ◌<◌, ◌∙◌, ◌∷◌, ◌≡◌, ◌≢◌, ◌≤◌, AreSorted, Axis, Below, Bool, Columns, Less, List, Position, Rectangle, Rows, Size, SpanMap, across, ap, append_assoc, are_visible, arith, both, cases_Bool, change_at, column_span-is, common_steps, count_of, cover_in, false, grown_each, halves, if◌then◌else◌, inl, inr, is_eq, less, line_of, min, position_cmp, positions_total, rectangle, refl, resized, row_span-is, size_at, size_at-with_size-other, sized, subst, sym, tied_itself, true, with_size, with_sizes, with_span, with_visible_span, ℕ}
 
 pub with_sizes-append : (m : SpanMap) (xs ys : List Rectangle) → with_sizes m (xs ++ ys) ≡ with_sizes (with_sizes m xs) ys
 with_sizes-append m [] ys = refl
-with_sizes-append m (x ∷ xs) ys = with_sizes-append (with_size m x.0 x.1) xs ys
+with_sizes-append m (x ∷ xs) ys = with_sizes-append (with_size m x.first x.size) xs ys
 
 -- what stands below all of a list stands below each of it
-below_here : (k : Position) (xs : List Rectangle) (p : Position) (s : Size) (rest : List Rectangle) → T (below_all position_cmp k (xs ++ (p, s) ∷ rest)) → position_cmp k p ≡ Less
+below_here : (k : Position) (xs : List Rectangle) (p : Position) (s : Size) (rest : List Rectangle) → Below k (xs ++ rectangle p s ∷ rest) → position_cmp k p ≡ Less
 below_here k [] p s rest b = less _ (halves _ _ b).0
 below_here k (x ∷ xs) p s rest b = below_here k xs p s rest (halves _ _ b).1
 
 -- with another size at one of rising places, or with that place left out, they still rise
 module _ (p : Position) (s t : Size) (rest : List Rectangle) (stays : Bool) where
   abbrev changed : List Rectangle
-  changed = if stays then (p, t) ∷ [] else []
+  changed = if stays then rectangle p t ∷ [] else []
 
-  below_changed : (k : Position) (xs : List Rectangle) → T (below_all position_cmp k (xs ++ (p, s) ∷ rest)) → T (below_all position_cmp k (xs ++ (changed ++ rest)))
-  below_changed k [] b = elim stays as (λ c. T (below_all position_cmp k ((if c then (p, t) ∷ [] else []) ++ rest))) [ true ↦ b | false ↦ (halves _ _ b).1 ]
+  below_changed : (k : Position) (xs : List Rectangle) → Below k (xs ++ rectangle p s ∷ rest) → Below k (xs ++ (changed ++ rest))
+  below_changed k [] b = elim stays as (λ c. Below k ((if c then rectangle p t ∷ [] else []) ++ rest)) [ true ↦ b | false ↦ (halves _ _ b).1 ]
   below_changed k (x ∷ xs) b = both _ _ (halves _ _ b).0 (below_changed k xs (halves _ _ b).1)
 
-  sorted_changed : (xs : List Rectangle) → T (is_sorted position_cmp (xs ++ (p, s) ∷ rest)) → T (is_sorted position_cmp (xs ++ (changed ++ rest)))
-  sorted_changed [] up = elim stays as (λ c. T (is_sorted position_cmp ((if c then (p, t) ∷ [] else []) ++ rest))) [ true ↦ up | false ↦ (halves _ _ up).1 ]
-  sorted_changed (x ∷ xs) up = both _ _ (below_changed x.0 xs (halves _ _ up).0) (sorted_changed xs (halves _ _ up).1)
+  sorted_changed : (xs : List Rectangle) → AreSorted (xs ++ rectangle p s ∷ rest) → AreSorted (xs ++ (changed ++ rest))
+  sorted_changed [] up = elim stays as (λ c. AreSorted ((if c then rectangle p t ∷ [] else []) ++ rest)) [ true ↦ up | false ↦ (halves _ _ up).1 ]
+  sorted_changed (x ∷ xs) up = both _ _ (below_changed x.first xs (halves _ _ up).0) (sorted_changed xs (halves _ _ up).1)
 
 -- sizes set at places before do not touch a place
-pub size-before : (m : SpanMap) (xs : List Rectangle) (p : Position) (s : Size) (rest : List Rectangle) → T (is_sorted position_cmp (xs ++ (p, s) ∷ rest)) → size_at (with_sizes m xs) p ≡ size_at m p
+pub size-before : (m : SpanMap) (xs : List Rectangle) (p : Position) (s : Size) (rest : List Rectangle) → AreSorted (xs ++ rectangle p s ∷ rest) → size_at (with_sizes m xs) p ≡ size_at m p
 size-before m [] p s rest up = refl
-size-before m (x ∷ xs) p s rest up = size-before (with_size m x.0 x.1) xs p s rest (halves _ _ up).1 ∙ size_at-with_size-other m x.0 x.1 p apart
+size-before m (x ∷ xs) p s rest up = size-before (with_size m x.first x.size) xs p s rest (halves _ _ up).1 ∙ size_at-with_size-other m x.first x.size p apart
   where
-    apart : p ≢ x.0
+    apart : p ≢ x.first
     apart e =
-        let below : position_cmp p p ≡ Less = subst (λ (q : Position). position_cmp q p ≡ Less) (sym e) (below_here x.0 xs p s rest (halves _ _ up).0) in
+        let below : position_cmp p p ≡ Less = subst (λ (q : Position). position_cmp q p ≡ Less) (sym e) (below_here x.first xs p s rest (halves _ _ up).0) in
         let never : false ≡ true = sym (ap is_eq below) ∙ ap is_eq (tied_itself positions_total p) in cc
 
 -- a height or a width of at least 1 is a size
@@ -43,8 +43,8 @@ pub change-is : (axis : Axis) (m : SpanMap) (p : Position) (many : ℕ) → 1 �
 change-is axis m p many some = elim (cases_Bool (are_visible axis m p many)) [ inl t ↦ rw t (sym (span-is axis m p many some)) | inr f ↦ rw f refl ]
 
 -- after the change at a place, the next places still rise
-pub sorted-change : (axis : Axis) (m : SpanMap) (p : Position) (many : ℕ) (xs rest : List Rectangle) → T (is_sorted position_cmp (xs ++ (p, sized 1 1) ∷ rest)) → T (is_sorted position_cmp ((xs ++ change_at axis m p many) ++ rest))
-sorted-change axis m p many xs rest up = subst (λ (es : List Rectangle). T (is_sorted position_cmp es)) (sym (append_assoc xs (change_at axis m p many) rest)) (sorted_changed p (sized 1 1) (resized axis (size_at m p) many) rest (are_visible axis m p many) xs up)
+pub sorted-change : (axis : Axis) (m : SpanMap) (p : Position) (many : ℕ) (xs rest : List Rectangle) → AreSorted (xs ++ rectangle p (sized 1 1) ∷ rest) → AreSorted ((xs ++ change_at axis m p many) ++ rest)
+sorted-change axis m p many xs rest up = subst AreSorted (sym (append_assoc xs (change_at axis m p many) rest)) (sorted_changed p (sized 1 1) (resized axis (size_at m p) many) rest (are_visible axis m p many) xs up)
 
 -- the change at a place, and spans at those that follow
 pub changes-more : (cfg : SpanMap) (xs new : List Rectangle) (p : Position) (rest : List Position) (axis : Axis) (size n many : ℕ) → many ≡ min size (n - line_of axis p) → 1 ≤ many → new ≡ xs ++ change_at axis (with_sizes cfg xs) p many → grown_each axis size n (with_sizes cfg new) rest ≡ grown_each axis size n (with_sizes cfg xs) (p ∷ rest)

@@ -1,5 +1,5 @@
 -- Tails of runs: the lengths that are carried from each cell to the one before it.
-use Rattle.tabled_spans.proofs.Common.{◌+◌, ◌-◌, ◌<◌, ◌∙◌, ◌≡◌, ◌≢◌, ◌≤◌, ◌⊎◌, AreInBlock, AreTails, Axis, Before, Columns, Entity, Grid, In, IsInside, IsTail, Joins, List, Position, Rectangle, Rows, SpanMap, ap, ap₂, arith, cases_lt, cases_place, common_steps, further, get_or-replicate, get_or-set_other, get_or-set_same, inl, inr, length, length-replicate, length-set, line_of, place, refl, replicate, slice_index, slice_set, subst, sym, ℕ}
+use Rattle.tabled_spans.proofs.Common.{◌+◌, ◌-◌, ◌<◌, ◌∙◌, ◌≡◌, ◌≢◌, ◌≤◌, ◌⊎◌, AreInBlock, AreTails, Axis, Before, Columns, Entity, Grid, In, IsInside, IsTail, Joins, List, Position, Rectangle, Rows, SpanMap, ap, ap₂, arith, cases_lt, cases_place, common_steps, further, get_or-replicate, get_or-set_other, get_or-set_same, inl, inr, length-replicate, length-set, line_of, place, refl, replicate, slice_index, slice_set, subst, sym, ℕ}
 use Rattle.tabled_spans.proofs.RunLists.{in_row, next_row, one_more, split_last}
 use Rattle.tabled_spans.proofs.Runs.{further_back, further_none, same_last}
 
@@ -42,44 +42,44 @@ module _ (axis : Axis) (entity : Entity) (g : Grid (List ℕ)) (m : SpanMap) whe
 
   module _ (block : Rectangle) (is : AreInBlock entity g block) where
     -- below the block
-    pub tails_below : (i j : ℕ) → block.0.row + block.1.height ≤ i → AreTails axis entity g m block i j (replicate block.1.width 1)
+    pub tails_below : (i j : ℕ) → block.first.row + block.size.height ≤ i → AreTails axis entity g m block i j (replicate block.size.width 1)
     tails_below i j high = record {
-      size = length-replicate block.1.width 1;
-      each = λ p inside before alone. subst (IsTail axis entity g m p) (sym (get_or-replicate block.1.width (p.col - block.0.col) 1 0 (omega (arith, inside.left, inside.right)))) (tail_alone p (λ j. let next = (is (further axis 1 p)).0 j.next in alone next (inl (omega (arith, next.bottom, high)))));
+      size = length-replicate block.size.width 1;
+      each = λ p inside before alone. subst (IsTail axis entity g m p) (sym (get_or-replicate block.size.width (p.col - block.first.col) 1 0 (omega (arith, inside.left, inside.right)))) (tail_alone p (λ j. let next = (is (further axis 1 p)).0 j.next in alone next (inl (omega (arith, next.bottom, high)))));
     }
 
     -- the cell before one of the block's first line isn't in the block
-    pub in_front : (x : Axis) (p q : Position) → line_of x p ≡ line_of x block.0 → further x 1 q ≡ p → In block q → ⊥
+    pub in_front : (x : Axis) (p q : Position) → line_of x p ≡ line_of x block.first → further x 1 q ≡ p → In block q → ⊥
     in_front Rows p q first e within = omega (arith, first, ap (λ (y : Position). y.row) e, within.top)
     in_front Columns p q first e within = omega (arith, first, ap (λ (y : Position). y.col) e, within.left)
 
     -- from the end of a row on
-    pub tails_end : (i j : ℕ) (lengths : List ℕ) → block.0.col + block.1.width ≤ j → AreTails axis entity g m block (i + 1) block.0.col lengths → AreTails axis entity g m block i j lengths
+    pub tails_end : (i j : ℕ) (lengths : List ℕ) → block.first.col + block.size.width ≤ j → AreTails axis entity g m block (i + 1) block.first.col lengths → AreTails axis entity g m block i j lengths
     tails_end i j lengths wide so_far = record {
       size = so_far.size;
-      each = λ p inside before alone. so_far.each p inside (next_row i j block.0.col p before) (λ within h. alone within (in_row i j block.0.col (further axis 1 p) within.left (omega (arith, within.right, wide)) h));
+      each = λ p inside before alone. so_far.each p inside (next_row i j block.first.col p before) (λ within h. alone within (in_row i j block.first.col (further axis 1 p) within.left (omega (arith, within.right, wide)) h));
     }
 
     module _ (p : Position) (inside : In block p) (lengths : List ℕ) (so_far : AreTails axis entity g m block p.row (p.col + 1) lengths) where
       -- the tail at the place
-      pub tail_here : IsTail axis entity g m p (slice_index lengths (p.col - block.0.col))
+      pub tail_here : IsTail axis entity g m p (slice_index lengths (p.col - block.first.col))
       tail_here = so_far.each p inside (inr (refl, omega arith)) (λ within h. next_after axis p h)
 
-      tail_still : (r : Position) → In block r → Before p.row p.col r → (In block (further axis 1 r) → Before p.row p.col (further axis 1 r) → ⊥) → (further axis 1 r ≡ p → ⊥) → IsTail axis entity g m r (slice_index lengths (r.col - block.0.col))
+      tail_still : (r : Position) → In block r → Before p.row p.col r → (In block (further axis 1 r) → Before p.row p.col (further axis 1 r) → ⊥) → (further axis 1 r ≡ p → ⊥) → IsTail axis entity g m r (slice_index lengths (r.col - block.first.col))
       tail_still r within before alone other = so_far.each r within (one_more p.row p.col r before) (λ next h. elim (split_last p.row p.col (further axis 1 r) h) [ inl b ↦ alone next b | inr e ↦ other e ])
 
       -- where no place of the block is before it
-      pub tails_first : line_of axis p ≡ line_of axis block.0 → AreTails axis entity g m block p.row p.col lengths
+      pub tails_first : line_of axis p ≡ line_of axis block.first → AreTails axis entity g m block p.row p.col lengths
       tails_first first = record { size = so_far.size; each = λ r within before alone. tail_still r within before alone (λ e. in_front axis p r first e within) }
 
       -- the tail at the place before it
-      pub tails_set : (last : Position) (many : ℕ) → further axis 1 last ≡ p → In block last → IsTail axis entity g m last many → AreTails axis entity g m block p.row p.col (slice_set lengths (last.col - block.0.col) many)
+      pub tails_set : (last : Position) (many : ℕ) → further axis 1 last ≡ p → In block last → IsTail axis entity g m last many → AreTails axis entity g m block p.row p.col (slice_set lengths (last.col - block.first.col) many)
       tails_set last many is here tail = record {
-        size = length-set lengths (last.col - block.0.col) many ∙ so_far.size;
+        size = length-set lengths (last.col - block.first.col) many ∙ so_far.size;
         each = λ r within before alone. by r within before alone (cases_place r last);
       }
         where
-          same_column : (x : Axis) (r : Position) → further x 1 last ≡ p → In block r → Before p.row p.col r → r.col - block.0.col ≡ last.col - block.0.col → (In block (further x 1 r) → Before p.row p.col (further x 1 r) → ⊥) → further x 1 r ≡ p
+          same_column : (x : Axis) (r : Position) → further x 1 last ≡ p → In block r → Before p.row p.col r → r.col - block.first.col ≡ last.col - block.first.col → (In block (further x 1 r) → Before p.row p.col (further x 1 r) → ⊥) → further x 1 r ≡ p
           same_column Rows r e within (inl above) same alone = either (cases_lt (r.row + 1) p.row)
             where
               either : (r.row + 1 < p.row) ⊎ (p.row ≤ r.row + 1) → further Rows 1 r ≡ p
@@ -89,8 +89,8 @@ module _ (axis : Axis) (entity : Entity) (g : Grid (List ℕ)) (m : SpanMap) whe
           same_column Columns r e within (inl above) same alone = absurd (alone (record { top = within.top; bottom = within.bottom; left = omega (arith, within.left); right = omega (arith, same, within.left, here.left, ap (λ (y : Position). y.col) e, inside.right) }) (inl above))
           same_column Columns r e within (inr h) same alone = ap₂ place h.0 (omega (arith, same, within.left, here.left, ap (λ (y : Position). y.col) e))
 
-          by : (r : Position) → In block r → Before p.row p.col r → (In block (further axis 1 r) → Before p.row p.col (further axis 1 r) → ⊥) → (r ≡ last) ⊎ (r ≢ last) → IsTail axis entity g m r (slice_index (slice_set lengths (last.col - block.0.col) many) (r.col - block.0.col))
-          by r within before alone (inl e) = subst (λ (x : Position). IsTail axis entity g m x (slice_index (slice_set lengths (last.col - block.0.col) many) (x.col - block.0.col))) (sym e) (subst (IsTail axis entity g m last) (sym (get_or-set_same lengths (last.col - block.0.col) many 0 (omega (arith, here.left, here.right, so_far.size)))) tail)
+          by : (r : Position) → In block r → Before p.row p.col r → (In block (further axis 1 r) → Before p.row p.col (further axis 1 r) → ⊥) → (r ≡ last) ⊎ (r ≢ last) → IsTail axis entity g m r (slice_index (slice_set lengths (last.col - block.first.col) many) (r.col - block.first.col))
+          by r within before alone (inl e) = subst (λ (x : Position). IsTail axis entity g m x (slice_index (slice_set lengths (last.col - block.first.col) many) (x.col - block.first.col))) (sym e) (subst (IsTail axis entity g m last) (sym (get_or-set_same lengths (last.col - block.first.col) many 0 (omega (arith, here.left, here.right, so_far.size)))) tail)
           by r within before alone (inr other) =
               let apart : further axis 1 r ≢ p = λ e. other (same_last axis r last (e ∙ sym is)) in
-              subst (IsTail axis entity g m r) (sym (get_or-set_other lengths (last.col - block.0.col) (r.col - block.0.col) many 0 (λ same. apart (same_column axis r is within before same alone)))) (tail_still r within before alone apart)
+              subst (IsTail axis entity g m r) (sym (get_or-set_other lengths (last.col - block.first.col) (r.col - block.first.col) many 0 (λ same. apart (same_column axis r is within before same alone)))) (tail_still r within before alone apart)

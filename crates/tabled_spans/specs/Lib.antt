@@ -1,5 +1,4 @@
 pub mod Keeping
-pub mod PanelSteps
 pub mod Panels
 pub mod RunSteps
 pub mod Runs

@@ -1,14 +1,15 @@
 -- The steps in which runs are found, row by row.
-use Rattle.std.specs.Prelude.{◌≡◌, ◌↔◌, ◌+◌, ◌-◌, ◌<◌, ◌≤◌, ◌⊎◌, ℕ, List, None, Option, Some, T, drop, if◌then◌else◌, length, nat_lt, slice_index}
-use Rattle.std.specs.FinMap.{entries, find, is_sorted}
+use Rattle.std.specs.Prelude.{◌≡◌, ◌↔◌, ◌+◌, ◌-◌, ◌<◌, ◌≤◌, ◌⊎◌, ℕ, List, None, Option, Some, drop, if◌then◌else◌, length, nat_lt, slice_index}
+use Rattle.std.specs.FinMap.{find}
 use Rattle.std.specs.List.{AllByRecursion}
 use Rattle.tabled_grid.specs.Covers.{Cover}
 use Rattle.tabled_grid.specs.Grid.{Grid}
 use Rattle.tabled_grid.specs.Midway.{In}
-use Rattle.tabled_grid.specs.Spans.{Rectangle, SpanMap, position_cmp, sized}
+use Rattle.tabled_grid.specs.Spans.{AreSorted, SpanMap, pairs, position_cmp, rectangle, rectangles, sized}
 use Rattle.tabled_grid.specs.declared.config.entity.Entity.{Entity}
 use Rattle.tabled_grid.specs.declared.config.entity.Entity.TheVariants.{Global, Column, Row, Cell}
 use Rattle.tabled_grid.specs.declared.config.position.Position.{Position}
+use Rattle.tabled_grid.specs.declared.config.rectangle.Rectangle.{Rectangle}
 use Rattle.tabled_grid.specs.declared.records.axis.Axis.{Axis}
 use Rattle.tabled_spans.specs.Runs.{IsNamed, IsRun, Joins, further, size_of_run}
 
@@ -23,14 +24,14 @@ Before i j p = (p.row < i) ⊎ ((p.row ≡ i) × (p.col < j))
 
 -- the anchor and the size of a run
 abbrev pub IsOfRun : Axis → Entity → Grid (List ℕ) → SpanMap → Rectangle → Type 0
-IsOfRun axis e g m anchor = (many : ℕ) × IsRun axis e g m anchor.0 many × (anchor.1 ≡ size_of_run axis many)
+IsOfRun axis e g m anchor = (many : ℕ) × IsRun axis e g m anchor.first many × (anchor.size ≡ size_of_run axis many)
 
 -- the anchors and sizes of all runs that begin at a place or after it, row by row
 pub record RunsFrom (axis : Axis) (e : Entity) (g : Grid (List ℕ)) (m : SpanMap) (i j : ℕ) (sizes : List Rectangle) : Type 0 where
-  pub sorted : T (is_sorted position_cmp sizes)
-  pub from : AllByRecursion (λ (anchor : Rectangle). Before i j anchor.0 → ⊥) sizes
+  pub sorted : AreSorted sizes
+  pub from : AllByRecursion (λ (anchor : Rectangle). Before i j anchor.first → ⊥) sizes
   pub each : AllByRecursion (IsOfRun axis e g m) sizes
-  pub all : (p : Position) (many : ℕ) → IsRun axis e g m p many → (Before i j p → ⊥) → find position_cmp p sizes ≡ Some (size_of_run axis many)
+  pub all : (p : Position) (many : ℕ) → IsRun axis e g m p many → (Before i j p → ⊥) → find position_cmp p (pairs sizes) ≡ Some (size_of_run axis many)
 
 -- the cell and those after it along the axis, as far as each joins the next one
 pub record IsTail (axis : Axis) (e : Entity) (g : Grid (List ℕ)) (m : SpanMap) (p : Position) (many : ℕ) : Type 0 where
@@ -59,7 +60,7 @@ lines_named (Some line) count = if nat_lt line count then (line, 1) else (count,
 
 -- the block of cells that a cover speaks of
 abbrev pub block_in : Cover → Rectangle
-block_in cover = (cover.first, sized cover.rows cover.columns)
+block_in cover = rectangle cover.first (sized cover.rows cover.columns)
 
 -- the cells of the table that an entity names are those of a block
 abbrev pub AreInBlock : Entity → Grid (List ℕ) → Rectangle → Type 0
@@ -67,10 +68,10 @@ AreInBlock e g block = (p : Position) → IsNamed e g p ↔ In block p
 
 -- the length of the tail of each cell of a block before a place, row by row, whose next one isn't before it, at the cell's column
 pub record AreTails (axis : Axis) (e : Entity) (g : Grid (List ℕ)) (m : SpanMap) (block : Rectangle) (i j : ℕ) (lengths : List ℕ) : Type 0 where
-  pub size : length lengths ≡ block.1.width
-  pub each : (p : Position) → In block p → Before i j p → (In block (further axis 1 p) → Before i j (further axis 1 p) → ⊥) → IsTail axis e g m p (slice_index lengths (p.col - block.0.col))
+  pub size : length lengths ≡ block.size.width
+  pub each : (p : Position) → In block p → Before i j p → (In block (further axis 1 p) → Before i j (further axis 1 p) → ⊥) → IsTail axis e g m p (slice_index lengths (p.col - block.first.col))
 
 -- all but the first n anchors stand in the rows below one
 pub record StandBelow (m : SpanMap) (row many : ℕ) : Type 0 where
-  pub within : many ≤ length (entries m)
-  pub below : AllByRecursion (λ (e : Rectangle). row < e.0.row) (drop many (entries m))
+  pub within : many ≤ length (rectangles m)
+  pub below : AllByRecursion (λ (e : Rectangle). row < e.first.row) (drop many (rectangles m))

@@ -1,11 +1,11 @@
 -- Runs of equal neighbours in rows or in columns, and the map in which each is one rectangle.
-use Rattle.std.specs.Prelude.{◌≡◌, ◌+◌, ◌-◌, ◌<◌, ◌≤◌, ◌⊎◌, ◌&&◌, ◌==◌, ℕ, Bool, List, Some, true}
+use Rattle.std.specs.Prelude.{◌≡◌, ◌+◌, ◌-◌, ◌<◌, ◌≤◌, ◌⊎◌, ◌&&◌, ℕ, Bool, List, Some, true}
 use Rattle.std.specs.FinMap as map
 use Rattle.tabled_grid.specs.Axis.{in_line, line_of, resized}
 use Rattle.tabled_grid.specs.Entity.{names}
 use Rattle.tabled_grid.specs.Grid.{Grid, IsInside, cell_at}
 use Rattle.tabled_grid.specs.Hidden.{is_visible}
-use Rattle.tabled_grid.specs.Spans.{SpanMap, size_at, sized}
+use Rattle.tabled_grid.specs.Spans.{SpanMap, is_cell, size_at, sized}
 use Rattle.tabled_grid.specs.declared.config.entity.Entity.{Entity}
 use Rattle.tabled_grid.specs.declared.config.position.Position.{Position}
 use Rattle.tabled_grid.specs.declared.records.axis.Axis.{Axis}
@@ -21,7 +21,7 @@ size_of_run axis many = resized axis (sized 1 1) many
 
 -- the cell is visible and no anchor
 abbrev pub is_free : SpanMap → Position → Bool
-is_free m p = is_visible m p && (((size_at m p).height == 1) && ((size_at m p).width == 1))
+is_free m p = is_visible m p && is_cell (size_at m p)
 
 -- a cell of the table that an entity names
 pub record IsNamed {A : Type 0} (e : Entity) (g : Grid A) (p : Position) : Type 0 where

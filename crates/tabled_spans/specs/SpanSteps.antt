@@ -2,16 +2,17 @@
 use Rattle.std.specs.Prelude.{◌≡◌, ◌+◌, ◌-◌, ◌<◌, ◌≤◌, ℕ, true, min, List, [], ◌∷◌, if◌then◌else◌}
 use Rattle.tabled_grid.specs.Covers.{Cover, cover_in}
 use Rattle.tabled_grid.specs.Entity.{names}
-use Rattle.tabled_grid.specs.Spans.{Rectangle, SpanMap, size_at, with_sizes}
+use Rattle.tabled_grid.specs.Spans.{SpanMap, rectangle, size_at, with_sizes}
 use Rattle.tabled_grid.specs.declared.config.entity.Entity.{Entity}
 use Rattle.tabled_grid.specs.declared.config.position.Position.{Position}
+use Rattle.tabled_grid.specs.declared.config.rectangle.Rectangle.{Rectangle}
 use Rattle.tabled_grid.specs.declared.records.axis.Axis.{Axis}
 use Rattle.tabled_grid.specs.Axis.{count_of, line_of, resized}
 use Rattle.tabled_spans.specs.Spanned.{are_visible}
 
 -- the new size at a place, if n cells from there on are all visible
 abbrev pub change_at : Axis → SpanMap → Position → ℕ → List Rectangle
-change_at axis m p many = if are_visible axis m p many then (p, resized axis (size_at m p) many) ∷ [] else []
+change_at axis m p many = if are_visible axis m p many then rectangle p (resized axis (size_at m p) many) ∷ [] else []
 
 -- what the map with that size covers of a block
 abbrev pub cover_changed_at : Axis → SpanMap → Position → ℕ → Position → ℕ → ℕ → Cover

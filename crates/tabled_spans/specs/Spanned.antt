@@ -3,12 +3,12 @@
 use Rattle.std.specs.Prelude.{◌≡◌, ◌<◌, ◌<ℤ◌, ◌+◌, ◌-◌, ◌⊎◌, Bool, ℕ, suc, ℤ, pos, negsuc, min, Option, None, Some, List, [], ◌∷◌, length, map, ◌++◌, if◌then◌else◌}
 use Rattle.std.specs.List.{AllByRecursion, fold, list_all, range_with_len}
 use Rattle.std.specs.Option.{unwrap_or}
-use Rattle.tabled_grid.specs.Axis.{count_of, in_line, line_of}
+use Rattle.tabled_grid.specs.Axis.{count_of, in_line, line_of, with_span}
 use Rattle.tabled_grid.specs.Entity.{inside}
 use Rattle.tabled_grid.specs.Grid.{Grid, cell_at, map_grid}
 use Rattle.tabled_grid.specs.Midway.{Flat, Midway, Narrow}
 use Rattle.tabled_grid.specs.Hidden.{drop_hidden, is_visible}
-use Rattle.tabled_grid.specs.Spans.{SpanMap, size_at, with_column_span, with_row_span}
+use Rattle.tabled_grid.specs.Spans.{SpanMap, size_at}
 use Rattle.tabled_grid.specs.declared.config.entity.Entity.{Entity}
 use Rattle.tabled_grid.specs.declared.config.position.Position.{Position}
 use Rattle.tabled_grid.specs.declared.records.axis.Axis.{Axis}
@@ -23,11 +23,6 @@ stretch axis p first many = map (in_line axis p) (range_with_len first many)
 -- n cells from a place on are all visible
 abbrev pub are_visible : Axis → SpanMap → Position → ℕ → Bool
 are_visible axis m p many = list_all (is_visible m) (stretch axis p (line_of axis p) many)
-
--- the map with a height or a width at a place, of which 0 changes nothing
-abbrev pub with_span : Axis → SpanMap → Position → ℕ → SpanMap
-with_span Rows = with_row_span
-with_span Columns = with_column_span
 
 -- the map with a span over n cells from a place on, if they are all visible
 abbrev pub with_visible_span : Axis → SpanMap → Position → ℕ → SpanMap

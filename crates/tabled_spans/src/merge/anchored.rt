@@ -1,7 +1,7 @@
 //! Which cells are anchors, asked on a walk back over the rows of a table.
 
-ghost use Rattle.std.specs.Prelude.{◌≡◌, ◌==◌, ◌&&◌, not};
-ghost use Rattle.tabled_grid.specs.Spans.{size_at};
+ghost use Rattle.std.specs.Prelude.{◌≡◌, not};
+ghost use Rattle.tabled_grid.specs.Spans.{is_cell, size_at};
 ghost use Rattle.tabled_spans.specs.RunSteps.{StandBelow};
 
 use tabled_grid::config::{Position, SpannedConfig, search};
@@ -13,7 +13,7 @@ pub(super) fn up_to_row(cfg: &SpannedConfig, row: usize, many: usize) -> usize
 {
     let anchors = cfg.anchors();
     let mut many = many;
-    while many > 0 && anchors[many - 1].0.row > row {
+    while many > 0 && anchors[many - 1].first.row > row {
         many -= 1;
     }
     many
@@ -24,10 +24,10 @@ pub(super) fn up_to_row(cfg: &SpannedConfig, row: usize, many: usize) -> usize
 /// It searches only where the last of those n doesn't stand above the place.
 pub(super) fn is_anchor(cfg: &SpannedConfig, many: usize, pos: Position) -> bool
     requires { StandBelow cfg.now pos.row many }
-    ensures { result ≡ not (((size_at cfg.now pos).height == 1) && ((size_at cfg.now pos).width == 1)) }
+    ensures { result ≡ not (is_cell (size_at cfg.now pos)) }
 {
     let anchors = cfg.anchors();
-    if many == 0 || anchors[many - 1].0.row < pos.row {
+    if many == 0 || anchors[many - 1].first.row < pos.row {
         return false;
     }
     search(&anchors[..many], pos).is_ok()

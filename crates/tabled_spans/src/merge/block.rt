@@ -11,13 +11,16 @@ use tabled_grid::records::Axis;
 /// The cells of a table (`rows x columns`) that an entity names, as a block of them.
 pub(super) fn block_of(entity: Entity, rows: usize, columns: usize) -> Rectangle
     ensures cells { (g : Grid (List ℕ)) → g.rows ≡ rows → g.columns ≡ columns → AreInBlock entity g result }
-    ensures bottom { result.0.row + result.1.height ≤ rows }
-    ensures right { result.0.col + result.1.width ≤ columns }
+    ensures bottom { result.first.row + result.size.height ≤ rows }
+    ensures right { result.first.col + result.size.width ≤ columns }
 {
     let (row, col) = indexes_of(entity);
     let (top, height) = lines_named(row, rows);
     let (left, width) = lines_named(col, columns);
-    (Position::new(top, left), Size { height, width })
+    Rectangle {
+        first: Position::new(top, left),
+        size: Size { height, width },
+    }
 }
 
 /// The row and the column that an entity names, each if it is one alone.

@@ -14,7 +14,7 @@ mod runs;
 use crate::merge::block::{block_of, has_neighbours};
 use crate::merge::runs::runs;
 use std::alloc::{AllocError, Global};
-use tabled_grid::config::{CoverMap, Entity, SpannedConfig};
+use tabled_grid::config::{CoverMap, Entity, Rectangle, SpannedConfig};
 use tabled_grid::records::{Axis, CellText, ExactRecords, PeekableRecords, Records};
 use tabled_options::{CellOption, TableOption};
 
@@ -206,7 +206,7 @@ where
     ensures promised { NamesNoNeighbours axis entity (R.grid records.now) → IsOk result }
 {
     let block = block_of(entity, records.count_rows(), records.count_columns());
-    let (first, size) = block;
+    let Rectangle { first, size } = block;
     if !has_neighbours(axis, size) {
         return Ok(());
     }

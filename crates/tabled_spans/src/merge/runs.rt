@@ -32,16 +32,12 @@ where
     R::Cell: CellText,
     requires well { R.is_well_formed records.now }
     requires block { (e : Entity) × AreInBlock e (map_grid R.Cell.text_of (R.grid records.now)) block }
-    requires bottom { block.0.row + block.1.height < 2 ^ 64 }
-    requires right { block.0.col + block.1.width < 2 ^ 64 }
-    requires cover { cover.now ≡ cover_in cfg.now block.0 block.1.height block.1.width }
+    requires bottom { block.first.row + block.size.height < 2 ^ 64 }
+    requires right { block.first.col + block.size.width < 2 ^ 64 }
+    requires cover { cover.now ≡ cover_in cfg.now block.first block.size.height block.size.width }
     ensures { IfOk result (λ sizes. (e : Entity) → AreInBlock e (map_grid R.Cell.text_of (R.grid records.now)) block → RunsFrom axis e (map_grid R.Cell.text_of (R.grid records.now)) cfg.now 0 0 sizes.items) }
 {
-    let (first, size) = block;
-    let one = Size {
-        height: 1,
-        width: 1,
-    };
+    let Rectangle { first, size } = block;
     let mut sizes = Vec::new(alloc);
     let mut lengths = vec![in alloc; 1; size.width]?;
     let mut ahead = cfg.anchors().len();
@@ -51,7 +47,8 @@ where
             let pos = Position { row: i, col: j };
             let many = run_from(records, cfg, cover, ahead, axis, block, &mut lengths, pos);
             if many > 1 {
-                sizes.push((pos, axis.resized(one, many)))?;
+                let size = axis.resized(Size::CELL, many);
+                sizes.push(Rectangle { first: pos, size })?;
             }
         }
     }
@@ -78,26 +75,26 @@ where
     R::Cell: CellText,
     requires well { R.is_well_formed records.now }
     requires block { (e : Entity) × AreInBlock e (map_grid R.Cell.text_of (R.grid records.now)) block }
-    requires cover { cover.now ≡ cover_in cfg.now block.0 block.1.height block.1.width }
+    requires cover { cover.now ≡ cover_in cfg.now block.first block.size.height block.size.width }
     requires inside { In block pos }
     requires ahead { StandBelow cfg.now pos.row ahead }
-    requires width { length lengths.old ≡ block.1.width }
+    requires width { length lengths.old ≡ block.size.width }
     requires lengths { (e : Entity) → AreInBlock e (map_grid R.Cell.text_of (R.grid records.now)) block → AreTails axis e (map_grid R.Cell.text_of (R.grid records.now)) cfg.now block pos.row (pos.col + 1) lengths.old }
     ensures run { (e : Entity) → AreInBlock e (map_grid R.Cell.text_of (R.grid records.now)) block → RunAt axis e (map_grid R.Cell.text_of (R.grid records.now)) cfg.now pos result }
     ensures lengths { (e : Entity) → AreInBlock e (map_grid R.Cell.text_of (R.grid records.now)) block → AreTails axis e (map_grid R.Cell.text_of (R.grid records.now)) cfg.now block pos.row pos.col lengths.new }
 {
     // Counts tell that a length is still a `usize`.
     let _ = (records.count_rows(), records.count_columns());
-    let (first, _) = block;
-    let many = lengths[pos.col - first.col];
+    let left = block.first.col;
+    let many = lengths[pos.col - left];
     let Some(last) = before(axis, block, pos) else {
         return many;
     };
     if joins(records, cfg, cover, ahead, axis, last, pos, many > 1) {
-        lengths[last.col - first.col] = many + 1;
+        lengths[last.col - left] = many + 1;
         return 0;
     }
-    lengths[last.col - first.col] = 1;
+    lengths[last.col - left] = 1;
     many
 }
 
@@ -147,10 +144,10 @@ fn is_free(cfg: &SpannedConfig, cover: &CoverMap, ahead: usize, pos: Position) -
 fn before(axis: Axis, block: Rectangle, pos: Position) -> Option<Position>
     requires { In block pos }
     ensures some { IfSome result (λ last. (further axis 1 last ≡ pos) × In block last) }
-    ensures none { IsNone result → line_of axis pos ≡ line_of axis block.0 }
+    ensures none { IsNone result → line_of axis pos ≡ line_of axis block.first }
 {
     let line = axis.line_of(pos);
-    if line == axis.line_of(block.0) {
+    if line == axis.line_of(block.first) {
         return None;
     }
     Some(axis.in_line(pos, line - 1))

@@ -1,21 +1,17 @@
 //! A row or a column of one text.
 
-ghost use Rattle.std.specs.Prelude.{◌≡◌, ◌<◌, ◌≤◌, false, IfOk, OnErr, OnOk};
+ghost use Rattle.std.specs.Prelude.{◌≡◌, ◌≤◌, false, IfOk};
 ghost use Rattle.std.specs.String.{string_bytes};
-ghost use Rattle.tabled_grid.specs.Along.{count_along, without_line};
-ghost use Rattle.tabled_spans.specs.PanelSteps.{InsertsLine};
 ghost use Rattle.tabled_spans.specs.Panels.{Panels, has_room};
-ghost use Rattle.tabled_spans.specs.Spanned.{with_span};
 ghost use Rattle.tabled_spans.specs.Widths.{IsCutText, cut};
 ghost use Rattle.std.proofs.Common.{rules};
 
 use crate::panel::width::cut_text;
 use std::alloc::{AllocError, Global};
 use std::marker::{Model, PhantomData};
-use tabled_grid::config::{Entity, Position, SpannedConfig};
+use tabled_grid::config::{Entity, SpannedConfig};
 use tabled_grid::records::{
-    Axis, Blank, CellText, ExactRecords, Records, RecordsMut, Resizable, Target, TargetColumn,
-    TargetRow,
+    CellText, ExactRecords, Records, RecordsMut, Resizable, Target, TargetColumn, TargetRow,
 };
 use tabled_options::TableOption;
 
@@ -138,12 +134,12 @@ where
         }
         let mut merged = cfg.copy(alloc)?;
         merged.shift(axis, line);
-        set_span(alloc, &mut merged, axis.across(), axis.place(line, 0), many)?;
+        merged.set_span(alloc, axis.across(), axis.place(line, 0), many)?;
 
         // The map is made first: where it is refused, no line was put in.
-        insert_line(alloc, records, axis, line)?;
+        records.insert_line(alloc, axis, line)?;
         if let Err(error) = records.set(alloc, axis.place(line, 0), self.text) {
-            remove_line(records, axis, line);
+            records.remove_line(axis, line);
             return Err(error);
         }
         *cfg = merged;
@@ -155,53 +151,4 @@ where
     }
 
     ghost acts_like = { Prim.search rules };
-}
-
-/// Gives a place a height or a width.
-fn set_span(
-    alloc: Global,
-    cfg: &mut SpannedConfig,
-    axis: Axis,
-    pos: Position,
-    many: usize,
-) -> Result<(), AllocError>
-    ensures { OnOk result (cfg.new ≡ with_span axis cfg.old pos many) }
-{
-    match axis {
-        Axis::Rows => cfg.set_row_span(alloc, pos, many),
-        Axis::Columns => cfg.set_column_span(alloc, pos, many),
-    }
-}
-
-/// Inserts a line of blanks. Refused, it leaves the store as it was.
-fn insert_line<R>(alloc: Global, records: &mut R, axis: Axis, line: usize) -> Result<(), AllocError>
-where
-    R: Resizable,
-    R::Cell: Blank,
-    requires well { R.is_well_formed records.old }
-    requires within { line ≤ count_along axis (R.grid records.old) }
-    ensures well { R.is_well_formed records.new }
-    ensures ok { OnOk result (InsertsLine R.Cell.is_blank axis (R.grid records.old) (R.grid records.new) line) }
-    ensures err { OnErr result (R.grid records.new ≡ R.grid records.old) }
-{
-    match axis {
-        Axis::Rows => records.insert_row(alloc, line),
-        Axis::Columns => records.insert_column(alloc, line),
-    }
-}
-
-/// Removes a line.
-fn remove_line<R>(records: &mut R, axis: Axis, line: usize)
-where
-    R: Resizable,
-    R::Cell: Blank,
-    requires well { R.is_well_formed records.old }
-    requires within { line < count_along axis (R.grid records.old) }
-    ensures well { R.is_well_formed records.new }
-    ensures removed { R.grid records.new ≡ without_line axis line (R.grid records.old) }
-{
-    match axis {
-        Axis::Rows => records.remove_row(line),
-        Axis::Columns => records.remove_column(line),
-    }
 }

@@ -1,16 +1,14 @@
 //! Spans over visible cells, from a place on.
 
-ghost use Rattle.std.specs.Prelude.{◌≡◌, ◌+◌, ◌<◌, ◌≤◌, ◌++◌, ◌^◌, ℕ, pos, true, IfOk, IsOk, OnErr, OnOk, T};
-ghost use Rattle.std.specs.FinMap.{is_sorted};
+ghost use Rattle.std.specs.Prelude.{◌≡◌, ◌+◌, ◌<◌, ◌≤◌, ◌++◌, ◌^◌, ℕ, pos, true, IfOk, IsOk, OnErr, OnOk};
 ghost use Rattle.std.specs.List.{AllByRecursion};
 ghost use Rattle.tabled_grid.specs.Covers.{cover_in};
 ghost use Rattle.tabled_grid.specs.Entity.{names};
-ghost use Rattle.tabled_grid.specs.Spans.{IsSizeAt, SpanMap, position_cmp, with_sizes};
+ghost use Rattle.tabled_grid.specs.Spans.{AreSorted, IsSizeAt, SpanMap, with_sizes};
 ghost use Rattle.tabled_grid.specs.Axis.{across, count_of, line_of, resized};
 ghost use Rattle.tabled_spans.specs.Spanned.{SpanTakesNoMemory, are_visible, grown, grown_on, with_visible_span};
 ghost use Rattle.tabled_spans.specs.SpanSteps.{ForEachCovering, IsReach, change_at, cover_changed_at};
 
-use crate::span::along::{resized, size_at};
 use std::alloc::{AllocError, Global};
 use tabled_grid::config::{CoverMap, Entity, Position, Rectangle, Size, SpannedConfig};
 use tabled_grid::records::Axis;
@@ -69,10 +67,13 @@ fn grow_at(
     if !is_free(cover, axis, pos, many, hint) {
         return Ok(());
     }
-    let old = size_at(cfg, pos);
-    let new = resized(axis, old, many);
+    let old = cfg.size(pos);
+    let new = axis.resized(old, many);
     cover.replace(pos, old, new);
-    changes.push((pos, new))?;
+    changes.push(Rectangle {
+        first: pos,
+        size: new,
+    })?;
     Ok(())
 }
 
@@ -119,7 +120,7 @@ fn changes(
     columns: usize,
 ) -> Result<Vec<Rectangle>, AllocError>
     requires { 1 ≤ size }
-    ensures sorted { IfOk result (λ changes. T (is_sorted position_cmp changes.items)) }
+    ensures sorted { IfOk result (λ changes. AreSorted changes.items) }
     ensures full { IfOk result (λ changes. AllByRecursion IsSizeAt changes.items) }
     ensures sizes { IfOk result (λ changes. with_sizes cfg.now changes.items ≡ grown_on axis size entity rows columns cfg.now) }
 {
@@ -158,23 +159,13 @@ fn grow_one(
     ensures err { OnErr result (cfg.new ≡ cfg.old) }
     ensures promised { many ≤ 1 → IsOk result }
 {
-    let block = resized(
-        axis,
-        Size {
-            height: 1,
-            width: 1,
-        },
-        many,
-    );
+    let block = axis.resized(Size::CELL, many);
     let cover = CoverMap::of_block(alloc, cfg, pos, block.height, block.width)?;
     let mut hint = axis.line_of(pos);
     if !is_free(&cover, axis, pos, many, &mut hint) {
         return Ok(());
     }
-    match axis {
-        Axis::Rows => cfg.set_row_span(alloc, pos, many),
-        Axis::Columns => cfg.set_column_span(alloc, pos, many),
-    }
+    cfg.set_span(alloc, axis, pos, many)
 }
 
 /// Merges cells from each place on that an entity names in a table (`rows x columns`), and drops what is

@@ -1,17 +1,16 @@
 //! Spans back from a place, or over all of a line, visible or not.
 
-ghost use Rattle.std.specs.Prelude.{◌≡◌, ◌+◌, ◌<◌, ◌≤◌, ◌^◌, ℕ, [], IfOk, IsOk, OnErr, OnOk, T};
-ghost use Rattle.std.specs.FinMap.{is_sorted};
+ghost use Rattle.std.specs.Prelude.{◌≡◌, ◌+◌, ◌<◌, ◌≤◌, ◌^◌, ℕ, [], IfOk, IsOk, OnErr, OnOk};
 ghost use Rattle.std.specs.List.{AllByRecursion};
 ghost use Rattle.tabled_grid.specs.Entity.{inside};
-ghost use Rattle.tabled_grid.specs.Spans.{IsSizeAt, Rectangle, position_cmp, with_sizes};
+ghost use Rattle.tabled_grid.specs.Spans.{AreSorted, IsSizeAt, with_sizes};
 ghost use Rattle.tabled_grid.specs.declared.config.position.Position.{Position};
 ghost use Rattle.tabled_grid.specs.Grid.{IsInside};
 ghost use Rattle.tabled_options.specs.Writes.{FirstWritten, SameOrFirstWrites, Written};
-ghost use Rattle.tabled_grid.specs.Axis.{in_line};
-ghost use Rattle.tabled_spans.specs.Spanned.{pull_writes_on, pulled, pulled_on, pulling, with_span};
+ghost use Rattle.tabled_grid.specs.Axis.{in_line, with_span};
+ghost use Rattle.tabled_spans.specs.Spanned.{pull_writes_on, pulled, pulled_on, pulling};
 
-use crate::span::along::{resized, size_at, taken};
+use crate::span::along::taken;
 use std::alloc::{AllocError, Global};
 use tabled_grid::config::{Entity, Position, Rectangle, SpannedConfig, search};
 use tabled_grid::records::{Axis, CellText, ExactRecords, PeekableRecords, Records, RecordsMut};
@@ -24,21 +23,21 @@ fn put_span(
     pos: Position,
     many: usize,
 ) -> Result<(), AllocError>
-    requires sorted { T (is_sorted position_cmp changes.old.items) }
+    requires sorted { AreSorted changes.old.items }
     requires full { AllByRecursion IsSizeAt changes.old.items }
     requires some { 1 ≤ many }
-    ensures sorted { OnOk result (T (is_sorted position_cmp changes.new.items)) }
+    ensures sorted { OnOk result (AreSorted changes.new.items) }
     ensures full { OnOk result (AllByRecursion IsSizeAt changes.new.items) }
     ensures sizes { OnOk result (with_sizes cfg.now changes.new.items ≡ with_span axis (with_sizes cfg.now changes.old.items) pos many) }
 {
     match search(changes, pos) {
         Ok(k) => {
-            let size = resized(axis, changes[k].1, many);
-            changes[k] = (pos, size);
+            let size = axis.resized(changes[k].size, many);
+            changes[k] = Rectangle { first: pos, size };
         }
         Err(k) => {
-            let size = resized(axis, size_at(cfg, pos), many);
-            changes.insert(k, (pos, size))?;
+            let size = axis.resized(cfg.size(pos), many);
+            changes.insert(k, Rectangle { first: pos, size })?;
         }
     }
     Ok(())
@@ -54,7 +53,7 @@ fn changes(
     rows: usize,
     columns: usize,
 ) -> Result<Vec<Rectangle>, AllocError>
-    ensures sorted { IfOk result (λ changes. T (is_sorted position_cmp changes.items)) }
+    ensures sorted { IfOk result (λ changes. AreSorted changes.items) }
     ensures full { IfOk result (λ changes. AllByRecursion IsSizeAt changes.items) }
     ensures sizes { IfOk result (λ changes. with_sizes cfg.now changes.items ≡ pulled_on axis back entity rows columns cfg.now) }
 {

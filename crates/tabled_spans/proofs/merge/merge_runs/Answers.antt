@@ -1,4 +1,4 @@
-use Rattle.tabled_spans.proofs.Common.{◌∙◌, ◌≡◌, ◌≤◌, AreInBlock, IsSizeAt, AllByRecursion, MergesRuns, T, across, ap, is_sorted, lines_in, map_grid, position_cmp, rules, subst, sym, with_sizes}
+use Rattle.tabled_spans.proofs.Common.{◌∙◌, ◌≡◌, ◌≤◌, AllByRecursion, AreInBlock, AreSorted, IsSizeAt, MergesRuns, across, ap, lines_in, map_grid, rules, subst, sym, with_sizes}
 use Rattle.tabled_spans.proofs.Blocks.{neighbours, none_merged}
 use Rattle.tabled_spans.proofs.RunLists.{runs_merged, sizes_full}
 use Rattle.tabled_spans.proofs.merge.merge_runs.Goals as goal
@@ -13,7 +13,7 @@ pub returns-in_err-cover-clause-promised : goal.returns-in_err-cover-clause-prom
 returns-in_err-cover-clause-promised g c = λ none.
     let texts = map_grid g.R.Cell.CellText.text_of (g.R.GridStore.grid c.args.records.now) in
     let is = c.block_of-block.ensures.cells texts (sym c.count_rows.ensures.rows) (sym c.count_columns.ensures.columns) in
-    let some : (2 ≤ lines_in c.args.axis c.block_of-block.result.1) × (1 ≤ lines_in (across c.args.axis) c.block_of-block.result.1) = search (rules, c.has_neighbours.ensures, c.if-not-has_neighbours.false) in
+    let some : (2 ≤ lines_in c.args.axis c.block_of-block.result.size) × (1 ≤ lines_in (across c.args.axis) c.block_of-block.result.size) = search (rules, c.has_neighbours.ensures, c.if-not-has_neighbours.false) in
     absurd (neighbours g.R.Cell.CellText.text_of c.args.axis c.args.entity (g.R.GridStore.grid c.args.records.now) c.block_of-block.result is some none)
 
 pub runs-requires-clause-block : goal.runs-requires-clause-block
@@ -23,14 +23,14 @@ pub returns-in_err-sizes-clause-promised : goal.returns-in_err-sizes-clause-prom
 returns-in_err-sizes-clause-promised g c = λ none.
     let texts = map_grid g.R.Cell.CellText.text_of (g.R.GridStore.grid c.args.records.now) in
     let is = c.block_of-block.ensures.cells texts (sym c.count_rows.ensures.rows) (sym c.count_columns.ensures.columns) in
-    let some : (2 ≤ lines_in c.args.axis c.block_of-block.result.1) × (1 ≤ lines_in (across c.args.axis) c.block_of-block.result.1) = search (rules, c.has_neighbours.ensures, c.if-not-has_neighbours.false) in
+    let some : (2 ≤ lines_in c.args.axis c.block_of-block.result.size) × (1 ≤ lines_in (across c.args.axis) c.block_of-block.result.size) = search (rules, c.has_neighbours.ensures, c.if-not-has_neighbours.false) in
     absurd (neighbours g.R.Cell.CellText.text_of c.args.axis c.args.entity (g.R.GridStore.grid c.args.records.now) c.block_of-block.result is some none)
 
 pub set_sizes-requires-clause-sorted : goal.set_sizes-requires-clause-sorted
 set_sizes-requires-clause-sorted g c =
     let texts = map_grid g.R.Cell.CellText.text_of (g.R.GridStore.grid c.args.records.now) in
     let is = c.block_of-block.ensures.cells texts (sym c.count_rows.ensures.rows) (sym c.count_columns.ensures.columns) in
-    subst (λ es. T (is_sorted position_cmp es)) (sym c.deref.ensures.value) (c.in_ok-sizes.ensures c.args.entity is).sorted
+    subst AreSorted (sym c.deref.ensures.value) (c.in_ok-sizes.ensures c.args.entity is).sorted
 
 pub set_sizes-requires-clause-each : goal.set_sizes-requires-clause-each
 set_sizes-requires-clause-each g c =
@@ -42,7 +42,7 @@ pub returns-in_err-set_sizes-clause-promised : goal.returns-in_err-set_sizes-cla
 returns-in_err-set_sizes-clause-promised g c = λ none.
     let texts = map_grid g.R.Cell.CellText.text_of (g.R.GridStore.grid c.args.records.now) in
     let is = c.block_of-block.ensures.cells texts (sym c.count_rows.ensures.rows) (sym c.count_columns.ensures.columns) in
-    let some : (2 ≤ lines_in c.args.axis c.block_of-block.result.1) × (1 ≤ lines_in (across c.args.axis) c.block_of-block.result.1) = search (rules, c.has_neighbours.ensures, c.if-not-has_neighbours.false) in
+    let some : (2 ≤ lines_in c.args.axis c.block_of-block.result.size) × (1 ≤ lines_in (across c.args.axis) c.block_of-block.result.size) = search (rules, c.has_neighbours.ensures, c.if-not-has_neighbours.false) in
     absurd (neighbours g.R.Cell.CellText.text_of c.args.axis c.args.entity (g.R.GridStore.grid c.args.records.now) c.block_of-block.result is some none)
 
 pub returns-clause-ok : goal.returns-clause-ok

@@ -9,15 +9,15 @@ returns-in_default-clause-run g c = λ e is.
     let axis = c.args.axis in
     let block = c.args.block in
     let p = c.args.pos in
-    let many = slice_index c.args.lengths.now (p.col - block.0.col) in
-    let first : line_of axis p ≡ line_of axis block.0 = search (rules, c.in_default.ensures.none) in
+    let many = slice_index c.args.lengths.now (p.col - block.first.col) in
+    let first : line_of axis p ≡ line_of axis block.first = search (rules, c.in_default.ensures.none) in
     let tail = tail_here axis e texts c.args.cfg.now block is p c.requires.inside c.args.lengths.now (c.requires.lengths e is) in
     run_at axis e texts c.args.cfg.now p many (further axis (many - 1) p) tail.some refl tail.joins tail.ends (λ q next j. in_front axis e texts c.args.cfg.now block is axis p q first next ((is q).0 j.here))
 
 pub returns-in_default-clause-lengths : goal.returns-in_default-clause-lengths
 returns-in_default-clause-lengths g c = λ e is.
     let texts = map_grid g.R.Cell.CellText.text_of (g.R.GridStore.grid c.args.records.now) in
-    let first : line_of c.args.axis c.args.pos ≡ line_of c.args.axis c.args.block.0 = search (rules, c.in_default.ensures.none) in
+    let first : line_of c.args.axis c.args.pos ≡ line_of c.args.axis c.args.block.first = search (rules, c.in_default.ensures.none) in
     tails_first c.args.axis e texts c.args.cfg.now c.args.block is c.args.pos c.requires.inside c.args.lengths.now (c.requires.lengths e is) first
 
 pub joins-requires-clause-inside : goal.joins-requires-clause-inside
@@ -30,7 +30,7 @@ joins-requires-clause-free g c = λ some.
     let e = c.requires.block.0 in
     let is = c.requires.block.1 in
     let tail = tail_here c.args.axis e texts c.args.cfg.now block is c.args.pos c.requires.inside c.args.lengths.now (c.requires.lengths e is) in
-    let many = slice_index c.args.lengths.now (c.args.pos.col - block.0.col) in
+    let many = slice_index c.args.lengths.now (c.args.pos.col - block.first.col) in
     (tail_joins c.args.axis e texts c.args.cfg.now c.args.pos many tail (ltb-true 1 many some)).free
 
 pub overflow_add-lengths : goal.overflow_add-lengths
@@ -40,7 +40,7 @@ overflow_add-lengths g c =
     let e = c.requires.block.0 in
     let is = c.requires.block.1 in
     let tail = tail_here c.args.axis e texts c.args.cfg.now block is c.args.pos c.requires.inside c.args.lengths.now (c.requires.lengths e is) in
-    let many = slice_index c.args.lengths.now (c.args.pos.col - block.0.col) in
+    let many = slice_index c.args.lengths.now (c.args.pos.col - block.first.col) in
     let few : many + 1 < 2 ^ 64 = tail_fits c.args.axis e texts c.args.cfg.now c.in-Some.last c.args.pos many (2 ^ 64) c.in-Some.ensures.some.0 ((is c.args.pos).1 c.requires.inside).inside tail (omega (arith, c.count_rows.ensures.rows)) (omega (arith, c.count_columns.ensures.columns)) in
     omega (arith, few)
 
@@ -58,7 +58,7 @@ returns-then-joins-clause-lengths g c = λ e is.
     let lengths = c.args.lengths.now in
     let last = c.in-Some.last in
     let some = c.in-Some.ensures.some in
-    let many = slice_index lengths (c.args.pos.col - block.0.col) in
+    let many = slice_index lengths (c.args.pos.col - block.first.col) in
     let tail = tail_here c.args.axis e texts c.args.cfg.now block is c.args.pos c.requires.inside lengths (c.requires.lengths e is) in
     let joined = (c.joins.ensures e ((is last).1 some.1) ((is c.args.pos).1 c.requires.inside)).0 c.if-joins.true in
     let longer = tail_more c.args.axis e texts c.args.cfg.now last c.args.pos many some.0 joined tail in
@@ -72,7 +72,7 @@ returns-clause-run g c = λ e is.
     let p = c.args.pos in
     let last = c.in-Some.last in
     let some = c.in-Some.ensures.some in
-    let many = slice_index c.args.lengths.now (p.col - block.0.col) in
+    let many = slice_index c.args.lengths.now (p.col - block.first.col) in
     let tail = tail_here axis e texts c.args.cfg.now block is p c.requires.inside c.args.lengths.now (c.requires.lengths e is) in
     let joined = c.joins.ensures e ((is last).1 some.1) ((is p).1 c.requires.inside) in
     run_at axis e texts c.args.cfg.now p many (further axis (many - 1) p) tail.some refl tail.joins tail.ends (λ q next j. let t = joined.1 (subst (Joins axis e texts c.args.cfg.now) (same_last axis q last (next ∙ sym some.0)) j) in let f = c.if-joins.false in cc)

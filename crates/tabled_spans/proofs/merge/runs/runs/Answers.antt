@@ -1,4 +1,4 @@
-use Rattle.tabled_spans.proofs.Common.{[], ◌++◌, ◌+◌, ◌-◌, ◌∙◌, ◌∷◌, ◌≡◌, ◌≤◌, AreTails, RunsFrom, ap, arith, drop, length, map_grid, place, replicate, reverse, reverse-append, rules, size_of_run, subst, sym, take_at}
+use Rattle.tabled_spans.proofs.Common.{[], ◌++◌, ◌+◌, ◌-◌, ◌∙◌, ◌∷◌, ◌≡◌, AreTails, RunsFrom, ap, arith, drop, length, map_grid, place, rectangle, replicate, reverse, reverse-append, rules, size_of_run, subst, sym, take_at}
 use Rattle.tabled_spans.proofs.Anchored.{stand_higher, stand_none}
 use Rattle.tabled_spans.proofs.RunsFrom.{from_end, from_first, none_below, none_put, run_put}
 use Rattle.tabled_spans.proofs.Tails.{tails_below, tails_end}
@@ -8,11 +8,11 @@ pub loop-i-init : goal.loop-i-init
 loop-i-init g c =
     let texts = map_grid g.R.Cell.CellText.text_of (g.R.GridStore.grid c.args.records.now) in
     let block = c.args.block in
-    let end = block.0.row + block.1.height in
-    let ones : c.in_ok-lengths.lengths.items ≡ replicate block.1.width 1 = search (rules, c.in_ok-lengths.ensures.items) in (
+    let end = block.first.row + block.size.height in
+    let ones : c.in_ok-lengths.lengths.items ≡ replicate block.size.width 1 = search (rules, c.in_ok-lengths.ensures.items) in (
       λ e is. (
-        subst (λ es. RunsFrom c.args.axis e texts c.args.cfg.now end block.0.col (reverse es)) (sym c.new-sizes.ensures.items) (none_below c.args.axis e texts c.args.cfg.now block (λ p. (is p).0) end block.0.col (omega arith)),
-        subst (AreTails c.args.axis e texts c.args.cfg.now block end block.0.col) (sym ones) (tails_below c.args.axis e texts c.args.cfg.now block is end block.0.col (omega arith)),
+        subst (λ es. RunsFrom c.args.axis e texts c.args.cfg.now end block.first.col (reverse es)) (sym c.new-sizes.ensures.items) (none_below c.args.axis e texts c.args.cfg.now block (λ p. (is p).0) end block.first.col (omega arith)),
+        subst (AreTails c.args.axis e texts c.args.cfg.now block end block.first.col) (sym ones) (tails_below c.args.axis e texts c.args.cfg.now block is end block.first.col (omega arith)),
       ),
       λ row _. rw c.anchors-ahead.ensures.anchors (stand_none c.args.cfg.now row),
     )
@@ -22,11 +22,11 @@ loop-j-init g c =
     let texts = map_grid g.R.Cell.CellText.text_of (g.R.GridStore.grid c.args.records.now) in
     let block = c.args.block in
     let i = c.loop-i.i - 1 in
-    let j = block.0.col + block.1.width in
+    let j = block.first.col + block.size.width in
     let back : c.loop-i.i ≡ i + 1 = omega (arith, c.loop-i-test.true) in (
       λ e is. let held = c.loop-i.invariant.0 e is in (
-        from_end c.args.axis e texts c.args.cfg.now block (λ p. (is p).0) i j _ (omega arith) (subst (λ n. RunsFrom c.args.axis e texts c.args.cfg.now n block.0.col (reverse c.loop-i.sizes.items)) back held.0),
-        tails_end c.args.axis e texts c.args.cfg.now block is i j _ (omega arith) (subst (λ n. AreTails c.args.axis e texts c.args.cfg.now block n block.0.col c.loop-i.lengths.items) back held.1),
+        from_end c.args.axis e texts c.args.cfg.now block (λ p. (is p).0) i j _ (omega arith) (subst (λ n. RunsFrom c.args.axis e texts c.args.cfg.now n block.first.col (reverse c.loop-i.sizes.items)) back held.0),
+        tails_end c.args.axis e texts c.args.cfg.now block is i j _ (omega arith) (subst (λ n. AreTails c.args.axis e texts c.args.cfg.now block n block.first.col c.loop-i.lengths.items) back held.1),
       ),
       omega arith,
     )
@@ -58,8 +58,8 @@ loop-j-preserved-in-Continue-branch-2 g c = (
       let es = c.loop-j.sizes.items in
       let held = c.loop-j.invariant.0 e is in
       let so_far = subst (λ n. RunsFrom c.args.axis e texts c.args.cfg.now i n (reverse es)) back held.0 in
-      let added : c.push.new.self.items ≡ es ++ ((place i j, size_of_run c.args.axis many) ∷ []) = subst (λ s. c.push.new.self.items ≡ es ++ ((place i j, s) ∷ [])) c.resized.ensures c.in_ok-push.ensures.items in
-      let first : reverse c.push.new.self.items ≡ (place i j, size_of_run c.args.axis many) ∷ reverse es = ap reverse added ∙ reverse-append es ((place i j, size_of_run c.args.axis many) ∷ []) in
+      let added : c.push.new.self.items ≡ es ++ (rectangle (place i j) (size_of_run c.args.axis many) ∷ []) = subst (λ s. c.push.new.self.items ≡ es ++ (rectangle (place i j) s ∷ [])) c.resized-size.ensures.size c.in_ok-push.ensures.items in
+      let first : reverse c.push.new.self.items ≡ rectangle (place i j) (size_of_run c.args.axis many) ∷ reverse es = ap reverse added ∙ reverse-append es (rectangle (place i j) (size_of_run c.args.axis many) ∷ []) in
       let new = c.run_from-many.new.lengths in
       let tails = c.run_from-many.ensures.lengths e is in
       let same : length c.loop-j.lengths.items ≡ c.loop-j.lengths.len = search rules in

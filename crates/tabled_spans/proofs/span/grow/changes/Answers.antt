@@ -1,4 +1,4 @@
-use Rattle.tabled_spans.proofs.Common.{◌++◌, ◌-◌, ◌∙◌, ◌∷◌, ◌≡◌, ◌≤◌, Cover, T, ap, arith, count_of, is_sorted, line_of, min, position_cmp, refl, rules, size_at, sized, with_sizes}
+use Rattle.tabled_spans.proofs.Common.{◌++◌, ◌-◌, ◌∙◌, ◌∷◌, ◌≡◌, ◌≤◌, AreSorted, Cover, ap, arith, count_of, line_of, min, rectangle, refl, rules, size_at, sized, with_sizes}
 use Rattle.tabled_spans.proofs.Reach.{inside-reach}
 use Rattle.tabled_spans.proofs.RisingPlaces.{ones, sorted_inside}
 use Rattle.tabled_spans.proofs.SpanChanges.{changes-more, cover-change, line_within, reach_end, size-before, sorted-change}
@@ -53,7 +53,7 @@ loop-pos-preserved c =
     let xs = c.loop-pos.changes.items in
     let m = with_sizes cfg xs in
     let here = (rw c.in-Some.ensures.steps at c.loop-pos.invariant.within) in
-    let up : T (is_sorted position_cmp (xs ++ (p, sized 1 1) ∷ ones rest)) = rw c.in-Some.ensures.steps at c.loop-pos.invariant.sorted in
+    let up : AreSorted (xs ++ rectangle p (sized 1 1) ∷ ones rest) = rw c.in-Some.ensures.steps at c.loop-pos.invariant.sorted in
     let before : size_at m p ≡ size_at cfg p = size-before cfg xs p (sized 1 1) (ones rest) up in
     let added = c.in_ok-grow_at.ensures.ok m c.first_named-first.result (c.reach-bottom.result.0 - c.first_named-first.result.row) (c.reach-bottom.result.1 - c.first_named-first.result.col) c.loop-pos.invariant.cover before in
     let covered = c.in_ok-grow_at.ensures.cover m c.first_named-first.result (c.reach-bottom.result.0 - c.first_named-first.result.row) (c.reach-bottom.result.1 - c.first_named-first.result.col) c.loop-pos.invariant.cover before in

@@ -1,4 +1,4 @@
-use Rattle.tabled_spans.proofs.Common.{◌++◌, ◌≡◌, AllByRecursion, InReach, IsSizeAt, Position, T, across, count_of, cover_in, grown_each, inside, is_sorted, length, names, position_cmp, true, with_sizes}
+use Rattle.tabled_spans.proofs.Common.{◌++◌, ◌≡◌, AllByRecursion, AreSorted, InReach, IsSizeAt, Position, across, count_of, cover_in, grown_each, inside, length, names, true, with_sizes}
 use Rattle.tabled_spans.proofs.RisingPlaces.{ones}
 use Rattle.tabled_spans.proofs.span.grow.changes.Given as goal
 
@@ -9,7 +9,7 @@ invariant-loop-pos l =
     record {
       within : AllByRecursion (λ (p : Position). (names l.fn.entity p ≡ true) × InReach l.axis l.size n l.bottom l.right p) l.pos-iterator;
       cover : l.cover ≡ cover_in m l.first l.height l.width;
-      sorted : T (is_sorted position_cmp (l.changes.items ++ ones l.pos-iterator));
+      sorted : AreSorted (l.changes.items ++ ones l.pos-iterator);
       full : AllByRecursion IsSizeAt l.changes.items;
       sizes : grown_each l.axis l.size n m l.pos-iterator ≡ grown_each l.axis l.size n l.cfg (inside l.fn.entity l.rows l.columns);
       hints : length l.hints.items ≡ count_of (across l.axis) l.height l.width;
