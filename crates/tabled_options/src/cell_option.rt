@@ -1,11 +1,12 @@
 //! What changes cells of a table.
 
 ghost use Rattle.std.specs.Iterator.{AlwaysYields, IsFinite};
-ghost use Rattle.std.specs.Prelude.{◌≡◌, OnOk, OnErr, IsOk, List, Option, Some};
+ghost use Rattle.std.specs.Option.{IfSome};
+ghost use Rattle.std.specs.Prelude.{◌≡◌, IfOk, IsNone, OnOk, OnErr, IsOk, List, Option, Some};
 ghost use Rattle.tabled_grid.specs.Grid.{Grid};
 ghost use Rattle.tabled_grid.specs.declared.config.entity.Entity.{Entity};
 ghost use Rattle.tabled_grid.specs.declared.config.entity.Entity.TheVariants.{Global};
-ghost use Rattle.tabled_options.specs.Does.{ActsLike, Change, CopiesAlike, Each, EachUntil, Same, SameOr};
+ghost use Rattle.tabled_options.specs.Does.{ActsLike, Change, Each, EachUntil, Same, SameOr};
 
 use std::alloc::{AllocError, Global};
 use tabled_grid::config::Entity;
@@ -56,37 +57,32 @@ pub trait CellOption<R: GridStore, C> {
         ensures err { OnErr result (leaves self entity (R.grid records.old) cfg.old (R.grid records.new) cfg.new) }
         ensures promised { never_refused self entity (R.grid records.old) cfg.old → IsOk result };
 
-    /// Changes the cells of some entities, one after another, each by a copy of the option. An option may do at
-    /// once what comes to the same.
+    /// Changes the cells of some entities at once, where the option has a way to: so that there is what comes of
+    /// copies of it on one entity after another. Else it gives the entities back, and changes nothing.
     ///
     /// Refused, it leaves the changes for the entities before one, and of that one nothing, or what its refused
     /// change leaves.
     ///
-    /// Of this project: in the original, `ModifyList` does so.
-    fn change_each<I>(
-        self,
+    /// Of this project.
+    fn change_at_once<I>(
+        &self,
         alloc: Global,
         records: &mut R,
         cfg: &mut C,
         entities: I,
-    ) -> Result<(), AllocError>
+    ) -> Result<Option<I>, AllocError>
     where
-        Self: Sized + Clone,
         I: Iterator<Item = Entity> + Drop,
         requires well { R.is_well_formed records.old }
-        requires can { can_change self × CopiesAlike Self.is_clone is_like self }
+        requires can { can_change self.now }
         requires next { I.can_next entities }
         requires ends { IsFinite (I.remaining entities) }
         ensures well { R.is_well_formed records.new }
-        ensures ok { (items : List Entity) → AlwaysYields I.next_gives (λ e. e) entities items → OnOk result (Each (does self) items (R.grid records.old) cfg.old (R.grid records.new) cfg.new) }
-        ensures err { (items : List Entity) → AlwaysYields I.next_gives (λ e. e) entities items → OnErr result (EachUntil (does self) (λ e. SameOr (leaves self e)) items (R.grid records.old) cfg.old (R.grid records.new) cfg.new) }
+        ensures back { IfOk result (λ back. IfSome back (λ rest. (rest ≡ entities) × Same (R.grid records.old) cfg.old (R.grid records.new) cfg.new)) }
+        ensures ok { (items : List Entity) → AlwaysYields I.next_gives (λ e. e) entities items → IfOk result (λ back. IsNone back → Each (does self.now) items (R.grid records.old) cfg.old (R.grid records.new) cfg.new) }
+        ensures err { (items : List Entity) → AlwaysYields I.next_gives (λ e. e) entities items → OnErr result (EachUntil (does self.now) (λ e. SameOr (leaves self.now e)) items (R.grid records.old) cfg.old (R.grid records.new) cfg.new) }
     {
-        let mut entities = entities;
-        while let Some(entity) = entities.next() {
-            let copy = self.clone()?;
-            copy.change(alloc, records, cfg, entity)?;
-        }
-        Ok(())
+        Ok(Some(entities))
     }
 
     /// Hints at the part of the table that it may change, or at none. Where nothing better is known, this

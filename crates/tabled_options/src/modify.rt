@@ -1,7 +1,9 @@
 //! A cell option on what an object lists.
 
-ghost use Rattle.std.specs.Prelude.{◌≡◌};
-ghost use Rattle.tabled_options.specs.Does.{CopiesAlike, EachListed, EachListedLeaves};
+ghost use Rattle.std.specs.Iterator.{AlwaysYields, IsFinite};
+ghost use Rattle.std.specs.Prelude.{◌≡◌, List, OnErr, OnOk};
+ghost use Rattle.tabled_grid.specs.declared.config.entity.Entity.{Entity};
+ghost use Rattle.tabled_options.specs.Does.{CopiesAlike, Each, EachListed, EachListedLeaves, EachUntil, SameOr};
 ghost use Rattle.std.proofs.Common.{rules};
 
 use crate::cell_option::CellOption;
@@ -10,7 +12,7 @@ use crate::table_option::TableOption;
 use std::alloc::{AllocError, Global};
 use std::marker::Model;
 use tabled_grid::config::Entity;
-use tabled_grid::records::{ExactRecords, Records};
+use tabled_grid::records::{ExactRecords, GridStore, Records};
 use tabled_select::object::Object;
 
 /// An object whose cells are to be changed. A contract sees it as the object.
@@ -132,7 +134,10 @@ where
     ) -> Result<(), AllocError> {
         let ModifyList { object, option } = self;
         let entities = object.cells(alloc, records)?;
-        option.change_each(alloc, records, cfg, entities)
+        match option.change_at_once(alloc, records, cfg, entities)? {
+            Some(entities) => change_each(option, alloc, records, cfg, entities),
+            None => Ok(()),
+        }
     }
 
     fn hint_change(&self) -> Option<Entity> {
@@ -140,4 +145,33 @@ where
     }
 
     ghost acts_like = { Prim.search rules };
+}
+
+/// Changes the cells of some entities, one after another, each by a copy of the option.
+///
+/// A refused copy or change ends the call there.
+fn change_each<M, R, C, I>(
+    option: M,
+    alloc: Global,
+    records: &mut R,
+    cfg: &mut C,
+    mut entities: I,
+) -> Result<(), AllocError>
+where
+    M: CellOption<R, C> + Clone,
+    R: GridStore,
+    I: Iterator<Item = Entity> + Drop,
+    requires well { R.is_well_formed records.old }
+    requires can { M.can_change option × CopiesAlike M.is_clone M.is_like option }
+    requires next { I.can_next entities }
+    requires ends { IsFinite (I.remaining entities) }
+    ensures well { R.is_well_formed records.new }
+    ensures ok { (items : List Entity) → AlwaysYields I.next_gives (λ e. e) entities items → OnOk result (Each (M.does option) items (R.grid records.old) cfg.old (R.grid records.new) cfg.new) }
+    ensures err { (items : List Entity) → AlwaysYields I.next_gives (λ e. e) entities items → OnErr result (EachUntil (M.does option) (λ e. SameOr (M.leaves option e)) items (R.grid records.old) cfg.old (R.grid records.new) cfg.new) }
+{
+    while let Some(entity) = entities.next() {
+        let copy = option.clone()?;
+        copy.change(alloc, records, cfg, entity)?;
+    }
+    Ok(())
 }

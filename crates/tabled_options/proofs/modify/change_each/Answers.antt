@@ -2,10 +2,10 @@ use Rattle.tabled_options.proofs.Common.{inl, inr, refl, rules}
 use Rattle.tabled_options.proofs.Results.{on_err}
 use Rattle.tabled_options.proofs.Turns.{last_at, turn}
 use Rattle.tabled_options.proofs.Until.{until_first, until_next}
-use Rattle.tabled_options.proofs.cell_option.CellOption.change_each.Goals as goal
+use Rattle.tabled_options.proofs.modify.change_each.Goals as goal
 
 pub change-requires-clause-can : goal.change-requires-clause-can
-change-requires-clause-can g c = (g.met.Self.CellOption.acts_like _ _ (c.requires.can.1 _ c.in_ok-copy.ensures.cases)).can_be_used c.requires.can.0
+change-requires-clause-can g c = (g.met.M.CellOption.acts_like _ _ (c.requires.can.1 _ c.in_ok-copy.ensures.cases)).can_be_used c.requires.can.0
 
 pub returns-in_err-copy-clause-err : goal.returns-in_err-copy-clause-err
 returns-in_err-copy-clause-err g c = λ items gives.
@@ -15,7 +15,7 @@ returns-in_err-copy-clause-err g c = λ items gives.
 
 pub loop-entity-preserved : goal.loop-entity-preserved
 loop-entity-preserved g c =
-    let alike = g.met.Self.CellOption.acts_like _ _ (c.requires.can.1 _ c.in_ok-copy.ensures.cases) in
+    let alike = g.met.M.CellOption.acts_like _ _ (c.requires.can.1 _ c.in_ok-copy.ensures.cases) in
     let done = alike.does_alike _ _ _ _ _ c.in_ok-change.ensures.ok in
     record {
       can = search rules;
@@ -31,7 +31,7 @@ pub returns-in_err-change-clause-err : goal.returns-in_err-change-clause-err
 returns-in_err-change-clause-err g c = λ items gives.
     let i = c.loop-entity.invariant.lasts items gives in
     let t = turn g.I.Iterator.next_gives c.loop-entity.entities c.in-Some.entity c.next.new.self i.0 i.1 c.in-Some.ensures.steps in
-    let alike = g.met.Self.CellOption.acts_like _ _ (c.requires.can.1 _ c.in_ok-copy.ensures.cases) in
+    let alike = g.met.M.CellOption.acts_like _ _ (c.requires.can.1 _ c.in_ok-copy.ensures.cases) in
     on_err c.from_residual-in_err-change.result (i.3 _ _ (rw t.is (until_first _ _ _ _ _ _ _ _ (inr (alike.leaves_alike _ _ _ _ _ c.in_err-change.ensures.err)))))
 
 pub returns-clause-ok : goal.returns-clause-ok
