@@ -12,9 +12,6 @@ pub record IsWalked (done : List Rectangle) (m : BTreeMap ℕ Rectangle) (row : 
   pub beside : AreBeside row m
   pub among : (q : ℕ) (f : Rectangle) → get nat_cmp m q ≡ Some f → Member f done
 
-nothing : {P : Type 0} (m : BTreeMap ℕ Rectangle) (q : ℕ) (f : Rectangle) → m.entries ≡ [] → get nat_cmp m q ≡ Some f → P
-nothing m q f none is = absurd (none-some f (sym (rw none refl) ∙ is))
-
 -- what may reach a later row
 pub walked-later : (done : List Rectangle) (m : BTreeMap ℕ Rectangle) (row later : ℕ) → row ≤ later → IsWalked done m row → IsWalked done m later
 walked-later done m row later le h = record {
