@@ -1,5 +1,5 @@
 -- A walk over rectangles row by row.
-use Rattle.tabled_language.proofs.Common.{[], ◌++◌, ◌+◌, ◌<◌, ◌∙◌, ◌∷◌, ◌≡◌, ◌≤◌, ◌⊎◌, AreBeside, AreKeyed, BTreeMap, Bool, EndsAbove, IsBeside, IsClear, IsLeft, IsMet, List, Meets, Rectangle, RowsRise, and_from, and_right, ap, arith, cond, drop, false, false_from_ne_true, get, get_or, get_or_default, has_place, inl, inr, is_eq, length, lie_well, lies_inside, meets, meets-from, meets-true, nat_cmp, nat_tests, none-some, not_from_false, refl, same_Some, subst, sym, take, take-append-drop, take_more, true, true≢false, ℕ}
+use Rattle.tabled_language.proofs.Common.{[], ◌++◌, ◌+◌, ◌<◌, ◌∙◌, ◌∷◌, ◌≡◌, ◌≤◌, ◌⊎◌, AreBeside, AreKeyed, BTreeMap, Bool, EndsAbove, IsBeside, IsClear, IsLeft, IsMet, List, Meets, Rectangle, RowsRise, and_from, and_right, ap, arith, cond, drop, false, false_from_ne_true, get, get_or, get_or_default, has_place, inl, inr, is_eq, length, lie_well, lies_inside, meets, meets-from, meets-true, nat_cmp, nat_tests, not_from_false, refl, same_Some, subst, sym, take, take-append-drop, take_more, true, true≢false, ℕ}
 use Rattle.std.specs.Prelude.{Some, not}
 use Rattle.tabled_grid.proofs.Members.{Member, any-from, any-member, member-either, member-left, member-right}
 use Rattle.tabled_language.proofs.PlacedAnchors.{well-left, well-push}
