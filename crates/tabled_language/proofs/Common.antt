@@ -1,6 +1,6 @@
 -- The names that most proofs cite, passed on from one place. Declares nothing.
 pub use Rattle.std.proofs.Common.{◌==◌, codes, leb, length-take, map-id, ne_eqb}
-pub use Rattle.std.proofs.lemmas.Bool.{leb-false, or_from, or_parts, true≢false}
+pub use Rattle.std.proofs.lemmas.Bool.{leb-false, or_parts, true≢false}
 pub use Rattle.std.proofs.lemmas.Bool.Decides.{eqb_tells, leb_tells}
 pub use Rattle.std.proofs.lemmas.List.{take_rest}
 pub use Rattle.std.proofs.lemmas.List.Elements.{All-from_get_or, filter_map-append}
@@ -19,16 +19,16 @@ pub use Rattle.std.specs.Result.{IsErrAnd, IsOk, result_ok}
 pub use Rattle.std.specs.Str.{all_ascii_digits, bytes_eq}
 pub use Rattle.std.specs.Str.Parse.{ParsesUnsigned, digits_value}
 pub use Rattle.std.specs.String.{string_vec}
-pub use Rattle.tabled_grid.proofs.Common.{All-from_recursion, All-permutation, AllByRecursion, AreAnchors, AreSorted, AreWide, Bool, Equal, Err, Fits, Greater, Grid, IsEmptyWithoutRows, IsEven, IsSpanSize, Less, List, MatchOrdering, None, Ok, Option, Ordering, Result, Some, SpanMap, T, Vec, [], all-append, and_from, and_left, and_parts, and_right, answers_always, ap, append-nil, append_assoc, ap₂, arith, cases_Bool, cases_lt, common_steps, cond, cond-false, cond-true, count_by, drop, drop-drop, drop_all, drop_more, eqb, eqb-true, false, false_from_ne_true, false≢true, flat_map, get_or, get_or_default, grid_of, inl, inr, is_eq, is_lt, length, length-append, length-drop, length-map, lie_well, lies_inside, list_all, list_any, map, map-append, map_grid, map_items, map_of, map_push, max, meets, mul-le-mul_right, nat_cmp, nat_le, none-some, not-true, not_from_false, option_map, or_right, ordering_reverse, pairs, place, position_cmp, range_with_len, ranked, rectangle, rectangles, recursion_from_All, refl, remove, rules, same_Some, same_map, sized, subst, suc, sym, take, take-append-drop, take_all, take_more, tied_itself, true, vec_len, width_of, zero, ℕ, ◌*◌, ◌++◌, ◌+◌, ◌-◌, ◌<◌, ◌∙◌, ◌∷◌, ◌≡◌, ◌≢◌, ◌≤◌, ◌⊎◌}
+pub use Rattle.tabled_grid.proofs.Common.{All-from_recursion, All-permutation, AllByRecursion, AreAnchors, AreSorted, AreWide, Bool, Equal, Err, Fits, Greater, Grid, IsEmptyWithoutRows, IsEven, IsSpanSize, Less, List, MatchOrdering, None, Ok, Option, Ordering, Result, Some, SpanMap, Vec, [], all-append, and_from, and_left, and_parts, and_right, answers_always, ap, append-nil, append_assoc, ap₂, arith, cases_Bool, cases_lt, common_steps, cond, cond-false, cond-true, count_by, drop, drop-drop, drop_all, drop_more, eqb, eqb-true, false, false_from_ne_true, false≢true, flat_map, get_or, get_or_default, grid_of, inl, inr, is_eq, is_lt, length, length-append, length-drop, length-map, lie_well, lies_inside, list_all, list_any, map, map-append, map_grid, map_items, map_of, map_push, max, meets, mul-le-mul_right, nat_cmp, nat_le, none-some, not-true, not_from_false, option_map, or_right, ordering_reverse, pairs, place, position_cmp, range_with_len, ranked, rectangle, rectangles, recursion_from_All, refl, remove, rules, same_Some, same_map, sized, subst, suc, sym, take, take-append-drop, take_all, take_more, true, vec_len, width_of, zero, ℕ, ◌*◌, ◌++◌, ◌+◌, ◌-◌, ◌<◌, ◌∙◌, ◌∷◌, ◌≡◌, ◌≢◌, ◌≤◌, ◌⊎◌}
 pub use Rattle.tabled_grid.proofs.MetAnchors.{meets-turned}
 pub use Rattle.tabled_grid.proofs.PassedAnchors.{Meets, meets-from, meets-true}
-pub use Rattle.tabled_grid.proofs.SortedEntries.{both, find_at, get-map_of, get-rectangles, halves, is_less, less, map_of-rectangles, positions_exact, positions_total, rectangles-map_of, rectangles_sorted}
+pub use Rattle.tabled_grid.proofs.SortedEntries.{both, find_at, get-map_of, get-rectangles, halves, is_less, map_of-rectangles, positions_exact, positions_total, rectangles-map_of, rectangles_sorted}
 pub use Rattle.tabled_grid.specs.declared.config.position.Position.{Position}
 pub use Rattle.tabled_grid.specs.declared.config.rectangle.Rectangle.{Rectangle}
 pub use Rattle.tabled_grid.specs.declared.config.size.Size.{Size}
 pub use Rattle.tabled_language.proofs.OwnWords.{LackEach, line_of_own_words, own_word, parts_lack, parts_lack_separator}
 pub use Rattle.tabled_language.specs.Drafts.{Draft, anchor_lines, draft_of, fault_behind, is_nil, shape_among, shape_at, shape_misfit, takes, with_line}
-pub use Rattle.tabled_language.specs.Faults.{fault_among, fault_of, first_fault, is_in_place, may_follow, shape_fault, span_fault, unless_it, words_fault}
+pub use Rattle.tabled_language.specs.Faults.{fault_among, fault_of, first_fault, is_in_place, may_follow, shape_fault, span_fault, words_fault}
 pub use Rattle.tabled_language.specs.Lent.{bytes_of, texts_in_row}
 pub use Rattle.tabled_language.specs.Line.{anchor_in, has_byte, is_plain, lines_of, meaning_of, record_in, says_line, shape_in, step_in, table_from, texts_of, words_of}
 pub use Rattle.tabled_language.specs.Output.{IsOwnWord, escaped, escaped_byte, line, print, span_line, tab_separated}

@@ -87,4 +87,4 @@ module _ (g : Grid (List ℕ)) where
 
   -- the first faulty span stands on the line of the first misfit
   pub first_misfit_line : (lines : List Line) (i : ℕ) → IsFirstMisfit g.rows g.columns (anchors lines) i → first_fault (span_fault g) [] lines ≡ Some (get_or (anchor_lines 0 lines) i 0, SpanMisfits)
-  first_misfit_line lines i m = misfit_behind [] lines i (record { within = m.within; before = m.before; there = ap (λ n. well (take n (anchors lines))) (sym add-one) ∙ m.there })
+  first_misfit_line lines i m = misfit_behind [] lines i (record { within = m.within; before = m.before; there = ap (λ n. well (take n (anchors lines))) (sym (add-one i)) ∙ m.there })

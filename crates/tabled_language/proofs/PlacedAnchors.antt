@@ -1,5 +1,5 @@
 -- Rectangles lie well in any order, or in none.
-use Rattle.tabled_language.proofs.Common.{[], ◌&&◌, ◌++◌, ◌+◌, ◌<◌, ◌∙◌, ◌∷◌, ◌≡◌, ◌≤◌, ◌⊎◌, All-from_recursion, All-permutation, AllByRecursion, AreAnchors, AreSorted, AreSpans, Bool, Equal, Greater, IsPermutation-sym, IsSpanSize, Less, List, Ordering, Position, Rectangle, RowsRise, Size, Some, T, and_from, and_left, and_parts, ap, arith, both, cases_Bool, cases_lt, false, false_from_ne_true, false≢true, find_at, get-from_entries, get-map_of, get_or, halves, has_place, is_lt, less, lie_well, lies_inside, list_all, list_all-append, list_any, lt-ltb, map_of, meets, meets-from, meets-turned, none-some, not, not-true, not_from_false, or_from, ordering_reverse, pairs, position_cmp, positions_exact, positions_total, rectangle, recursion_from_All, refl, same_map, spans_of, subst, suc, sym, true, true≢false, ℕ, inl, inr, is_less}
+use Rattle.tabled_language.proofs.Common.{[], ◌&&◌, ◌++◌, ◌+◌, ◌<◌, ◌∙◌, ◌∷◌, ◌≡◌, ◌≤◌, ◌⊎◌, All-from_recursion, All-permutation, AllByRecursion, AreAnchors, AreSorted, AreSpans, Bool, Equal, Greater, IsPermutation-sym, IsSpanSize, Less, List, Ordering, Position, Rectangle, RowsRise, Size, Some, and_from, and_parts, ap, arith, both, cases_Bool, cases_lt, false, false_from_ne_true, false≢true, find_at, get-from_entries, get-map_of, get_or, halves, has_place, is_lt, lie_well, lies_inside, list_all, list_all-append, list_any, lt-ltb, map_of, meets, meets-from, meets-turned, none-some, not, not-true, not_from_false, ordering_reverse, pairs, position_cmp, positions_exact, positions_total, rectangle, recursion_from_All, refl, same_map, spans_of, subst, suc, sym, true, true≢false, ℕ, inl, inr, is_less}
 use Rattle.std.specs.Prelude.{◌||◌, None, Option}
 use Rattle.std.proofs.Math.Numerals.{add-one}
 use Rattle.std.specs.List.{IsDistinct}

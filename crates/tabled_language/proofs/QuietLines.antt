@@ -1,5 +1,5 @@
 -- Lines without faults: a shape, records, and spans.
-use Rattle.tabled_language.proofs.Common.{[], ◌++◌, ◌∙◌, ◌∷◌, ◌≡◌, EmptyLine, Fault, Grid, Line, List, None, Ok, Option, RecordLine, Rectangle, ShapeLine, Some, SpanLine, anchor_in, and_from, and_parts, ap, append-nil, ap₂, eq-eqb, false, fault_of, filter_map, filter_map-append, first_fault, has_place, is_in_place, lie_well, lies_inside, list_all-append, list_any, map, map-id, may_follow, meets, not_from_false, record_in, refl, shape_fault, span_fault, step_in, true, ℕ}
+use Rattle.tabled_language.proofs.Common.{[], ◌++◌, ◌∙◌, ◌∷◌, ◌≡◌, EmptyLine, Fault, Grid, Line, List, None, Ok, Option, RecordLine, Rectangle, ShapeLine, Some, SpanLine, anchor_in, ap, append-nil, ap₂, eq-eqb, fault_of, filter_map, first_fault, is_in_place, list_all-append, map, map-id, may_follow, record_in, refl, shape_fault, step_in, true, ℕ}
 use Rattle.tabled_language.proofs.LooseLines.{loose_place}
 
 -- what each of things says is picked

@@ -1,5 +1,5 @@
 -- A walk over rectangles row by row.
-use Rattle.tabled_language.proofs.Common.{[], ◌++◌, ◌+◌, ◌<◌, ◌∙◌, ◌∷◌, ◌≡◌, ◌≤◌, ◌⊎◌, AreBeside, AreKeyed, BTreeMap, Bool, EndsAbove, IsBeside, IsClear, IsLeft, IsMet, List, Meets, Rectangle, RowsRise, and_from, and_right, ap, arith, cond, drop, false, false_from_ne_true, get, get_or, get_or_default, has_place, inl, inr, is_eq, length, lie_well, lies_inside, meets, meets-from, meets-true, nat_cmp, nat_tests, none-some, not_from_false, refl, same_Some, subst, sym, take, take-append-drop, take_more, true, true≢false, ℕ}
+use Rattle.tabled_language.proofs.Common.{[], ◌++◌, ◌+◌, ◌<◌, ◌∙◌, ◌∷◌, ◌≡◌, ◌≤◌, ◌⊎◌, AreBeside, AreKeyed, BTreeMap, Bool, EndsAbove, IsBeside, IsClear, IsLeft, IsMet, List, Meets, Rectangle, RowsRise, and_from, and_right, ap, arith, cond, drop, false, false_from_ne_true, get, get_or, get_or_default, has_place, inl, inr, is_eq, length, lie_well, lies_inside, meets, meets-from, meets-true, nat_cmp, nat_tests, not_from_false, refl, same_Some, subst, sym, take, take-append-drop, take_more, true, true≢false, ℕ}
 use Rattle.std.specs.Prelude.{Some, not}
 use Rattle.tabled_grid.proofs.Members.{Member, any-from, any-member, member-either, member-left, member-right}
 use Rattle.tabled_language.proofs.PlacedAnchors.{well-left, well-push}
@@ -11,9 +11,6 @@ pub record IsWalked (done : List Rectangle) (m : BTreeMap ℕ Rectangle) (row : 
   pub begun : (q : ℕ) (f : Rectangle) → get nat_cmp m q ≡ Some f → (f.first.row ≤ row) × (1 ≤ f.size.width)
   pub beside : AreBeside row m
   pub among : (q : ℕ) (f : Rectangle) → get nat_cmp m q ≡ Some f → Member f done
-
-nothing : {P : Type 0} (m : BTreeMap ℕ Rectangle) (q : ℕ) (f : Rectangle) → m.entries ≡ [] → get nat_cmp m q ≡ Some f → P
-nothing m q f none is = absurd (none-some f (sym (rw none refl) ∙ is))
 
 -- what may reach a later row
 pub walked-later : (done : List Rectangle) (m : BTreeMap ℕ Rectangle) (row later : ℕ) → row ≤ later → IsWalked done m row → IsWalked done m later
