@@ -1,5 +1,5 @@
 -- A block of the cells that an entity names, and the neighbours among them.
-use Rattle.tabled_spans.proofs.Common.{◌+◌, ◌-◌, ◌≡◌, ◌≤◌, AreInBlock, Axis, Columns, Entity, Grid, In, IsNamed, List, MergesRuns, NamesNoNeighbours, Position, Rectangle, Rows, SpanMap, across, ap₂, arith, further, in_line, inr, line_of, lines_in, map_grid, place, refl, ℕ}
+use Rattle.tabled_spans.proofs.Common.{◌-◌, ◌≡◌, ◌≤◌, AreInBlock, Axis, Columns, Entity, Grid, In, IsNamed, List, MergesRuns, NamesNoNeighbours, Position, Rectangle, Rows, SpanMap, across, ap₂, arith, further, in_line, inr, line_of, lines_in, map_grid, place, refl, ℕ}
 
 -- the place before one of a block that isn't in its first line is in the block, too
 pub back_in : (axis : Axis) (block : Rectangle) (p : Position) → In block p → (line_of axis p ≡ line_of axis block.0 → ⊥) → (further axis 1 (in_line axis p (line_of axis p - 1)) ≡ p) × In block (in_line axis p (line_of axis p - 1))
