@@ -2,6 +2,9 @@ pub mod Anchored
 pub mod Blocks
 pub mod Common
 pub mod FreeCells
+pub mod LineRuns
+pub mod Marks
+pub mod MergeEach
 pub mod MergeGeometry
 pub mod MergeTwice
 pub mod NoNeighbours

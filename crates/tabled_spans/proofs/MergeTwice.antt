@@ -51,7 +51,7 @@ module _ (axis : Axis) (entity : Entity) (g : Grid (List ℕ)) (m : SpanMap) whe
     first_free a many run = subst (λ x. is_free m x ≡ true) (further_none axis a) (run_cell axis entity g m a many 0 run (omega (arith, run.some))).free
 
     -- what is hidden stays hidden
-    hidden_still : (p : Position) → is_hidden m p ≡ true → is_hidden n p ≡ true
+    pub hidden_still : (p : Position) → is_hidden m p ≡ true → is_hidden n p ≡ true
     hidden_still p h = let it = hidden_by m p h in by it.anchor it.size it.has it.holds it.other (merged.each it.anchor)
       where
         by : (a : Position) (s : Size) → get m a ≡ Some s → In (rectangle a s) p → a ≢ p → ((k : ℕ) × IsRun axis entity g m a k × (get n a ≡ Some (size_of_run axis k))) ⊎ (((k : ℕ) → IsRun axis entity g m a k → ⊥) × (get n a ≡ get m a)) → is_hidden n p ≡ true

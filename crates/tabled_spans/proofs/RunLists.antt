@@ -1,5 +1,5 @@
 -- The order of places, row by row, and the map in which runs that are listed are rectangles.
-use Rattle.tabled_spans.proofs.Common.{[], ◌+◌, ◌<◌, ◌∙◌, ◌∷◌, ◌≡◌, ◌≤◌, ◌⊎◌, AllByRecursion, Axis, Before, Columns, Entity, Grid, IsNamed, IsOfRun, IsRun, IsSizeAt, List, MergesRuns, Position, Rectangle, Rows, RunsFrom, Size, Some, SpanMap, and_left, ap, ap₂, arith, cases_lt, cases_place, common_steps, cond, false, find_at, inl, inr, is_cell, ne_eqb, none-some, place, size_of_run, subst, sym, untied, with_sizes, ℕ}
+use Rattle.tabled_spans.proofs.Common.{AllByRecursion, Axis, Before, Bool, Columns, Entity, Grid, IsNamed, IsOfRun, IsRun, IsSizeAt, List, MergesRuns, None, Option, Position, Rectangle, Rows, RunsFrom, Size, Some, SpanMap, [], and_left, ap, ap₂, arith, cases_lt, cases_place, common_steps, cond, false, find, find_at, if◌then◌else◌, inl, inr, is_cell, ne_eqb, none-some, place, position_cmp, size_of_run, subst, sym, untied, with_sizes, ℕ, ◌&&◌, ◌+◌, ◌<◌, ◌==◌, ◌∙◌, ◌∷◌, ◌≡◌, ◌≤◌, ◌⊎◌}
 use Rattle.tabled_spans.proofs.Runs.{further_none}
 use Rattle.tabled_spans.proofs.SetSizes.{get-with_sizes, set_or}
 
@@ -32,6 +32,9 @@ next_row i j left p (inr h) = inl (omega (arith, h.0))
 not_one : (axis : Axis) (many : ℕ) → 2 ≤ many → is_cell (size_of_run axis many) ≡ false
 not_one Rows many two = and_left _ _ (ne_eqb many 1 (λ e. omega (arith, e, two)))
 not_one Columns many two = ne_eqb many 1 (λ e. omega (arith, e, two))
+
+pub set_run : (axis : Axis) (many : ℕ) → 2 ≤ many → (old : Option Size) → set_or (Some (size_of_run axis many)) old ≡ Some (size_of_run axis many)
+set_run axis many two old = ap (λ (b : Bool). if b then None else Some (size_of_run axis many)) (not_one axis many two)
 
 module _ (axis : Axis) (entity : Entity) (g : Grid (List ℕ)) (m : SpanMap) where
   -- a run begins at a cell that is named

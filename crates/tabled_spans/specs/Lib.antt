@@ -1,4 +1,5 @@
 pub mod Keeping
+pub mod Lines
 pub mod Panels
 pub mod RunSteps
 pub mod Runs

@@ -9,12 +9,15 @@ ghost use Rattle.std.proofs.Common.{rules};
 
 mod anchored;
 mod block;
+mod each;
+mod lines;
 mod runs;
 
 use crate::merge::block::{block_of, has_neighbours};
-use crate::merge::runs::runs;
+use crate::merge::each::merge_each;
+use crate::merge::runs::runs_of;
 use std::alloc::{AllocError, Global};
-use tabled_grid::config::{CoverMap, Entity, Rectangle, SpannedConfig};
+use tabled_grid::config::{Entity, Rectangle, SpannedConfig};
 use tabled_grid::records::{Axis, CellText, ExactRecords, PeekableRecords, Records};
 use tabled_options::{CellOption, TableOption};
 
@@ -115,6 +118,20 @@ where
         merge_runs(alloc, records, cfg, Axis::Rows, entity)
     }
 
+    fn change_at_once<I>(
+        &self,
+        alloc: Global,
+        records: &mut R,
+        cfg: &mut SpannedConfig,
+        entities: I,
+    ) -> Result<Option<I>, AllocError>
+    where
+        I: Iterator<Item = Entity> + Drop,
+    {
+        merge_each(alloc, records, cfg, Axis::Rows, entities)?;
+        Ok(None)
+    }
+
     fn hint_change(&self) -> Option<Entity> {
         Some(Entity::Global)
     }
@@ -180,6 +197,20 @@ where
         merge_runs(alloc, records, cfg, Axis::Columns, entity)
     }
 
+    fn change_at_once<I>(
+        &self,
+        alloc: Global,
+        records: &mut R,
+        cfg: &mut SpannedConfig,
+        entities: I,
+    ) -> Result<Option<I>, AllocError>
+    where
+        I: Iterator<Item = Entity> + Drop,
+    {
+        merge_each(alloc, records, cfg, Axis::Columns, entities)?;
+        Ok(None)
+    }
+
     fn hint_change(&self) -> Option<Entity> {
         Some(Entity::Global)
     }
@@ -205,13 +236,11 @@ where
     ensures err { OnErr result (cfg.new ≡ cfg.old) }
     ensures promised { NamesNoNeighbours axis entity (R.grid records.now) → IsOk result }
 {
-    let block = block_of(entity, records.count_rows(), records.count_columns());
-    let Rectangle { first, size } = block;
+    let Rectangle { size, .. } = block_of(entity, records.count_rows(), records.count_columns());
     if !has_neighbours(axis, size) {
         return Ok(());
     }
-    let cover = CoverMap::of_block(alloc, cfg, first, size.height, size.width)?;
-    let sizes = runs(alloc, records, cfg, &cover, axis, block)?;
+    let sizes = runs_of(alloc, records, cfg, axis, entity)?;
     cfg.set_sizes(alloc, &sizes)?;
     Ok(())
 }

@@ -12,14 +12,35 @@ ghost use Rattle.tabled_spans.specs.RunSteps.{AreInBlock, AreTails, RunAt, RunsF
 ghost use Rattle.tabled_spans.specs.Runs.{IsNamed, Joins, further, is_free};
 
 use crate::merge::anchored::{is_anchor, up_to_row};
+use crate::merge::block::block_of;
 use std::alloc::{AllocError, Global};
-use tabled_grid::config::{CoverMap, Position, Rectangle, Size, SpannedConfig};
+use tabled_grid::config::{CoverMap, Entity, Position, Rectangle, Size, SpannedConfig};
 use tabled_grid::records::{Axis, CellText, ExactRecords, PeekableRecords, Records};
+
+/// The first cell of each run among the cells that an entity names, and the size of the run, row by row.
+pub(super) fn runs_of<R>(
+    alloc: Global,
+    records: &R,
+    cfg: &SpannedConfig,
+    axis: Axis,
+    entity: Entity,
+) -> Result<Vec<Rectangle>, AllocError>
+where
+    R: Records + ExactRecords + PeekableRecords,
+    R::Cell: CellText,
+    requires { R.is_well_formed records.now }
+    ensures { IfOk result (λ sizes. RunsFrom axis entity (map_grid R.Cell.text_of (R.grid records.now)) cfg.now 0 0 sizes.items) }
+{
+    let block = block_of(entity, records.count_rows(), records.count_columns());
+    let (first, size) = block;
+    let cover = CoverMap::of_block(alloc, cfg, first, size.height, size.width)?;
+    runs(alloc, records, cfg, &cover, axis, block)
+}
 
 /// The first cell of each run among the cells of a block and the size of the run, row by row.
 ///
 /// It goes back from the last cell, so that a run's length is known at its first cell.
-pub(super) fn runs<R>(
+fn runs<R>(
     alloc: Global,
     records: &R,
     cfg: &SpannedConfig,

@@ -30,6 +30,28 @@ where
     spelled_merged(alloc, &records, &cfg)
 }
 
+/// What a merge on several entities at once makes of a table with merged cells.
+fn on_entities(
+    alloc: Global,
+    old: &str,
+    axis: Axis,
+    entities: &[Entity],
+) -> Result<String, AllocError> {
+    let (mut records, mut cfg) = (flat(alloc, old)?, merged(alloc, old)?);
+    let entities = entities.to_vec(alloc)?.into_iter();
+    match axis {
+        Rows => {
+            let merge = Merge::vertical();
+            merge.change_at_once(alloc, &mut records, &mut cfg, entities)?;
+        }
+        Columns => {
+            let merge = Merge::horizontal();
+            merge.change_at_once(alloc, &mut records, &mut cfg, entities)?;
+        }
+    }
+    spelled_merged(alloc, &records, &cfg)
+}
+
 /// What a merge makes of all of it.
 fn on_table<R>(
     alloc: Global,
@@ -154,6 +176,46 @@ fn a_merge_on_a_table_is_that_of_all_cells(rt: HostRuntime) -> Result<(), Fail> 
             )?;
             assert!(rt; one.as_str() == other.as_str(), "{old}");
         }
+    }
+    Ok(())
+}
+
+#[test]
+fn merges_on_several_entities_are_made_at_once(rt: HostRuntime) -> Result<(), Fail> {
+    let alloc = rt.alloc();
+    let cases: &[(&str, Axis, &[Entity], &str)] = &[
+        // Named twice, and out of order.
+        (
+            "a a / b b / c c /",
+            Columns,
+            &[Row(2), Row(0), Row(2)],
+            "a a / b b / c c / 0.0:1x2 2.0:1x2",
+        ),
+        // A row, and then all.
+        (
+            "a a / b b / c d /",
+            Columns,
+            &[Row(1), Entity::Global, Row(0)],
+            "a a / b b / c d / 0.0:1x2 1.0:1x2",
+        ),
+        // Merged cells are there, and what has no neighbours, or lies outside, is passed over.
+        (
+            "a a / a a / a a / 1.1:2x1",
+            Rows,
+            &[Column(1), Row(0), Cell(0, 0), Column(2), Column(0)],
+            "a a / a a / a a / 0.0:3x1 1.1:2x1",
+        ),
+        (
+            "a a / a a /",
+            Rows,
+            &[Row(0), Column(1), Column(usize::MAX)],
+            "a a / a a / 0.1:2x1",
+        ),
+        ("a a / a a /", Rows, &[], "a a / a a /"),
+    ];
+    for &(old, axis, entities, new) in cases {
+        let made = on_entities(alloc, old, axis, entities)?;
+        assert!(rt; made.as_str() == new, "{old}: {made}");
     }
     Ok(())
 }

@@ -101,6 +101,13 @@ const MERGES: &[&str] = &[
     "a a / b b / | merge horizontal name a | in place | a a / b b /",
     "a a / a a / a a / | merge horizontal rows 0 9; merge vertical all | in place | a a / a a / a a / 0.0:1x2 1.0:1x2 2.0:1x2",
     "a / a / a / a / | merge vertical column 0; merge vertical column 0 | in place | a / a / a / a / 0.0:4x1",
+    // Of several entities at once, also with merged cells there.
+    "a a / b b / c c / | merge horizontal rows 0 2 | in place | a a / b b / c c / 0.0:1x2 1.0:1x2",
+    "a a a / a a a / a a a / 0.0:2x1 1.2:2x1 | merge horizontal rows 0 3 | in place | a a a / a a a / a a a / 0.0:2x1 0.1:1x2 1.2:2x1 2.0:1x2",
+    "a a / b b / c c / | merge horizontal step 2 rows 0 3 | in place | a a / b b / c c / 0.0:1x2 2.0:1x2",
+    "a a b / a c b / d c b / | merge vertical skip 1 columns 0 3 | in place | a a b / a c b / d c b / 0.2:3x1 1.1:2x1",
+    "a a a / a a a / 0.0:1x2 | merge vertical columns 0 3; merge horizontal rows 0 2 | in place | a a a / a a a / 0.0:1x2 0.2:2x1 1.0:1x2",
+    "a / a / | merge vertical columns 0 1; merge horizontal rows 0 2 | in place | a / a / 0.0:2x1",
     // The other pairings, and what lies outside.
     "a a / a a / | merge vertical rows 0 2; merge horizontal columns 0 2; merge vertical frame; merge horizontal cell 0 0 | in place | a a / a a /",
     "a a / a a / | merge vertical column 2; merge horizontal row 10000 | in place | a a / a a /",

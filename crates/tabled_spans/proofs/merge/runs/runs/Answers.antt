@@ -1,4 +1,4 @@
-use Rattle.tabled_spans.proofs.Common.{[], ◌++◌, ◌+◌, ◌-◌, ◌∙◌, ◌∷◌, ◌≡◌, AreTails, RunsFrom, ap, arith, drop, length, map_grid, place, rectangle, replicate, reverse, reverse-append, rules, size_of_run, subst, sym, take_at}
+use Rattle.tabled_spans.proofs.Common.{AreTails, RunsFrom, [], ap, arith, drop, length, map_grid, place, rectangle, replicate, reverse, reverse-append, rules, size_of_run, subst, sym, take_at, ◌++◌, ◌+◌, ◌-◌, ◌∙◌, ◌∷◌, ◌≡◌}
 use Rattle.tabled_spans.proofs.Anchored.{stand_higher, stand_none}
 use Rattle.tabled_spans.proofs.RunsFrom.{from_end, from_first, none_below, none_put, run_put}
 use Rattle.tabled_spans.proofs.Tails.{tails_below, tails_end}

@@ -1,0 +1,93 @@
+//! Runs merged on many entities at once.
+
+ghost use Rattle.std.specs.Iterator.{AlwaysYields, IsFinite};
+ghost use Rattle.std.specs.Prelude.{◌≡◌, false, filter, get_or, IfOk, IsOk, List, OnErr, OnOk, []};
+ghost use Rattle.tabled_grid.specs.Grid.{map_grid};
+ghost use Rattle.tabled_grid.specs.Spans.{Rectangle};
+ghost use Rattle.tabled_grid.specs.declared.config.entity.Entity.{Entity};
+ghost use Rattle.tabled_spans.specs.Lines.{MergesEach, RunsIn, is_among, line_at};
+
+use crate::merge::block::has_neighbours;
+use crate::merge::lines::Lines;
+use crate::merge::runs::runs_of;
+use std::alloc::{AllocError, Global};
+use tabled_grid::config::{Entity, Rectangle, Size, SpannedConfig};
+use tabled_grid::records::{Axis, CellText, ExactRecords, PeekableRecords, Records};
+
+/// Makes each run along an axis, among the cells that each of some entities names, one merged cell: what comes of
+/// one entity after another, since runs lie in lines of their own.
+///
+/// One entity costs its cells, and more of them one walk over the table. Refused, it leaves the map as it was.
+pub(super) fn merge_each<R, I>(
+    alloc: Global,
+    records: &R,
+    cfg: &mut SpannedConfig,
+    axis: Axis,
+    entities: I,
+) -> Result<(), AllocError>
+where
+    R: Records + ExactRecords + PeekableRecords,
+    R::Cell: CellText,
+    I: Iterator<Item = Entity> + Drop,
+    requires well { R.is_well_formed records.now }
+    requires next { I.can_next entities }
+    requires ends { IsFinite (I.remaining entities) }
+    ensures ok { (items : List Entity) → AlwaysYields I.next_gives (λ e. e) entities items → OnOk result (MergesEach axis items (map_grid R.Cell.text_of (R.grid records.now)) cfg.old cfg.new) }
+    ensures err { OnErr result (cfg.new ≡ cfg.old) }
+    ensures none { AlwaysYields I.next_gives (λ e. e) entities [] → IsOk result }
+{
+    let size = Size {
+        height: records.count_rows(),
+        width: records.count_columns(),
+    };
+    if !has_neighbours(axis, size) {
+        return Ok(());
+    }
+    let lines = Lines::named_by(alloc, axis, axis.across().count(records), entities)?;
+    if let Lines::Nothing = lines {
+        return Ok(());
+    }
+    let sizes = runs_in(alloc, records, cfg, axis, &lines)?;
+    cfg.set_sizes(alloc, &sizes)?;
+    Ok(())
+}
+
+/// The first cell of each run in some lines, and the size of the run, row by row.
+fn runs_in<R>(
+    alloc: Global,
+    records: &R,
+    cfg: &SpannedConfig,
+    axis: Axis,
+    lines: &Lines,
+) -> Result<Vec<Rectangle>, AllocError>
+where
+    R: Records + ExactRecords + PeekableRecords,
+    R::Cell: CellText,
+    requires { R.is_well_formed records.now }
+    ensures { IfOk result (λ sizes. RunsIn axis (is_among axis lines.now) (map_grid R.Cell.text_of (R.grid records.now)) cfg.now sizes.items) }
+{
+    match lines {
+        Lines::Nothing => Ok(Vec::new(alloc)),
+        Lines::Of(entity) => runs_of(alloc, records, cfg, axis, *entity),
+        Lines::Marked(marks) => {
+            let mut sizes = runs_of(alloc, records, cfg, axis, Entity::Global)?;
+            keep_marked(&mut sizes, axis, marks);
+            Ok(sizes)
+        }
+    }
+}
+
+/// Keeps what is anchored in marked lines.
+fn keep_marked(sizes: &mut Vec<Rectangle>, axis: Axis, marks: &[bool])
+    ensures { sizes.new.items ≡ filter (λ (e : Rectangle). get_or marks.now (line_at axis e.0) false) sizes.old.items }
+{
+    sizes.retain(|size| is_marked(marks, axis, *size));
+}
+
+/// Says whether the line that a rectangle is anchored in is marked.
+fn is_marked(marks: &[bool], axis: Axis, anchor: Rectangle) -> bool
+    ensures { result ≡ get_or marks.now (line_at axis anchor.0) false }
+{
+    let line = axis.across().line_of(anchor.0);
+    line < marks.len() && marks[line]
+}

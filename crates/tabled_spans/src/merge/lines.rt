@@ -1,0 +1,119 @@
+//! Which lines entities name whole.
+
+ghost use Rattle.std.specs.Prelude.{◌≡◌, ◌<◌, ◌==◌, ◌||◌, ℕ, false, get_or, length, IfOk, List, Ok, []};
+ghost use Rattle.std.specs.Iterator.{AlwaysYields, IsFinite};
+ghost use Rattle.tabled_grid.specs.declared.config.entity.Entity.{Entity};
+ghost use Rattle.tabled_spans.specs.Lines.{AreMany, AreNamedBy, is_among, names_line};
+ghost use Rattle.tabled_spans.specs.declared.merge.lines.Lines.TheVariants.{Nothing};
+
+use std::alloc::{AllocError, Global};
+use tabled_grid::config::Entity;
+use tabled_grid::records::Axis;
+
+/// Some of the lines of a table: of its columns where runs go along the rows, of its rows where they go along
+/// the columns.
+#[derive(Drop)]
+pub(super) enum Lines {
+    /// None.
+    Nothing,
+    /// Those that one entity names whole. They take no memory.
+    Of(Entity),
+    /// Those with a mark.
+    Marked(Vec<bool>),
+}
+
+impl Lines {
+    /// Those of the first n lines that some entities name whole.
+    ///
+    /// It takes memory for the marks alone, and none for the lines of one entity.
+    pub(super) fn named_by<I>(
+        alloc: Global,
+        axis: Axis,
+        many: usize,
+        entities: I,
+    ) -> Result<Self, AllocError>
+    where
+        I: Iterator<Item = Entity> + Drop,
+        requires next { I.can_next entities }
+        requires ends { IsFinite (I.remaining entities) }
+        ensures many { IfOk result (λ lines. AreMany many lines) }
+        ensures named { (items : List Entity) → AlwaysYields I.next_gives (λ e. e) entities items → IfOk result (λ lines. AreNamedBy axis many items lines) }
+        ensures nothing { AlwaysYields I.next_gives (λ e. e) entities [] → result ≡ Ok Nothing }
+    {
+        let mut lines = Lines::Nothing;
+        let mut entities = entities;
+        while let Some(entity) = entities.next() {
+            lines = lines.with(alloc, axis, many, entity)?;
+        }
+        Ok(lines)
+    }
+
+    /// The same, and those of the first n lines that another entity names whole.
+    fn with(
+        self,
+        alloc: Global,
+        axis: Axis,
+        many: usize,
+        entity: Entity,
+    ) -> Result<Self, AllocError>
+        requires many { AreMany many self }
+        ensures many { IfOk result (λ lines. AreMany many lines) }
+        ensures named { IfOk result (λ lines. (line : ℕ) → line < many → is_among axis lines line ≡ (is_among axis self line || names_line axis entity line)) }
+    {
+        if !names_lines(axis, many, entity) {
+            return Ok(self);
+        }
+        let mut marks = match self {
+            Lines::Nothing => return Ok(Lines::Of(entity)),
+            Lines::Of(first) => marks_of(alloc, axis, many, first)?,
+            Lines::Marked(marks) => marks,
+        };
+        mark(&mut marks, axis, entity);
+        Ok(Lines::Marked(marks))
+    }
+}
+
+/// A mark for each of the first n lines, set where an entity names the line whole.
+fn marks_of(alloc: Global, axis: Axis, many: usize, entity: Entity) -> Result<Vec<bool>, AllocError>
+    ensures length { IfOk result (λ marks. length marks.items ≡ many) }
+    ensures marked { IfOk result (λ marks. (line : ℕ) → line < many → get_or marks.items line false ≡ names_line axis entity line) }
+{
+    let mut marks = vec![in alloc; false; many]?;
+    mark(&mut marks, axis, entity);
+    Ok(marks)
+}
+
+/// Says whether an entity names one of the first n lines whole.
+fn names_lines(axis: Axis, many: usize, entity: Entity) -> bool
+    ensures { result ≡ false → (line : ℕ) → line < many → names_line axis entity line ≡ false }
+{
+    match (axis, entity) {
+        (_, Entity::Global) => many > 0,
+        (Axis::Rows, Entity::Column(line)) => line < many,
+        (Axis::Columns, Entity::Row(line)) => line < many,
+        _ => false,
+    }
+}
+
+/// Marks the lines that an entity names whole.
+fn mark(marks: &mut [bool], axis: Axis, entity: Entity)
+    ensures length { length marks.new ≡ length marks.old }
+    ensures marked { (line : ℕ) → line < length marks.old → get_or marks.new line false ≡ (get_or marks.old line false || names_line axis entity line) }
+{
+    match (axis, entity) {
+        (_, Entity::Global) => marks.fill(true),
+        (Axis::Rows, Entity::Column(line)) => mark_one(marks, line),
+        (Axis::Columns, Entity::Row(line)) => mark_one(marks, line),
+        _ => {}
+    }
+}
+
+/// Marks one line, if there is a mark for it.
+fn mark_one(marks: &mut [bool], line: usize)
+    ensures length { length marks.new ≡ length marks.old }
+    ensures marked { (k : ℕ) → k < length marks.old → get_or marks.new k false ≡ (get_or marks.old k false || (k == line)) }
+{
+    if line < marks.len() {
+        marks[line] = true;
+    }
+}
