@@ -1,5 +1,5 @@
 -- Runs lie in lines of their own: those of a line that an entity names whole are those of the table.
-use Rattle.tabled_spans.proofs.Common.{◌&&◌, ◌-◌, ◌==◌, ◌∙◌, ◌≡◌, Axis, Bool, Columns, Entity, Grid, In, IsNamed, IsRun, Joins, List, MergesRuns, Position, Rows, Size, SpanMap, ap, ap₂, arith, cases_Bool, false, false_from_ne_true, false≢true, further, get, hidden-from, hidden_by, inl, inr, is_free, is_hidden, names, not, Option, refl, same_Some, size_of_run, sized, subst, sym, true, unwrap_or, ℕ}
+use Rattle.tabled_spans.proofs.Common.{◌&&◌, ◌-◌, ◌==◌, ◌∙◌, ◌≡◌, Axis, Bool, Columns, Entity, Grid, In, IsNamed, IsRun, Joins, List, MergesRuns, Position, Rows, Size, SpanMap, ap, ap₂, arith, cases_Bool, false, false_from_ne_true, false≢true, further, get, hidden-from, hidden_by, inl, inr, is_free, is_hidden, names, not, Option, rectangle, refl, same_Some, size_of_run, sized, subst, sym, true, unwrap_or, ℕ}
 use Rattle.tabled_grid.specs.declared.config.entity.Entity.TheVariants.{Cell, Column, Global, Row}
 use Rattle.tabled_spans.proofs.MergeTwice.{hidden_still, no_more}
 use Rattle.tabled_spans.proofs.NoNeighbours.{none_in_cell, none_in_column, none_in_row}
@@ -71,7 +71,7 @@ run_named axis e g m p many run =
     joined_named axis e g p j.here j.next
 
 -- a run's rectangle is in one line
-in_its_line : (axis : Axis) (a p : Position) (many : ℕ) → In (a, size_of_run axis many) p → line_at axis a ≡ line_at axis p
+in_its_line : (axis : Axis) (a p : Position) (many : ℕ) → In (rectangle a (size_of_run axis many)) p → line_at axis a ≡ line_at axis p
 in_its_line Rows a p many h = omega (arith, h.left, h.right)
 in_its_line Columns a p many h = omega (arith, h.top, h.bottom)
 
@@ -86,7 +86,7 @@ module _ (axis : Axis) (e : Entity) (g : Grid (List ℕ)) (m n : SpanMap) (merge
       elim (merged.each by.anchor) [
         | inl run ↦
             let is = same_Some by.size (size_of_run axis run.0) (sym by.has ∙ run.2) in
-            let at = in_its_line axis by.anchor p run.0 (subst (λ (o : Size). In (by.anchor, o) p) is by.holds) in
+            let at = in_its_line axis by.anchor p run.0 (subst (λ (o : Size). In (rectangle by.anchor o) p) is by.holds) in
             absurd (false≢true (sym not_in ∙ ap (names_line axis e) (sym at) ∙ run_named axis e g m by.anchor run.0 run.1))
         | inr old ↦ hidden-from m by.anchor p by.size (sym old.1 ∙ by.has) by.holds by.other
       ]

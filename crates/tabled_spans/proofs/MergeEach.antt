@@ -1,8 +1,12 @@
 -- Runs merged on one entity after another are those of their lines, merged at once.
 use Rattle.std.proofs.Common.{◌||◌}
-use Rattle.std.specs.FinMap.Entries.{find-where_key, is_sorted-where_key, where_key}
-use Rattle.tabled_spans.proofs.Common.{[], ◌<◌, ◌∙◌, ◌∷◌, ◌≡◌, ◌≤◌, ◌⊎◌, AllByRecursion, Axis, Bool, Columns, Entity, Grid, IsInside, IsOfRun, IsRun, IsSizeAt, Joins, List, MergesRuns, None, Option, Position, Rectangle, Rows, RunsFrom, Size, Some, SpanMap, T, across, ap, ap₂, arith, cases_Bool, cases_place, cond, count_along, false, false≢true, filter, find, further, get, inl, inr, is_eq, is_sorted, lines_in, map_grid, none-some, not, position_cmp, positions_exact, positions_total, refl, same_Some, same_map, size_of_run, subst, sym, tied, true, untied, with_sizes, ℕ}
+use Rattle.std.specs.FinMap.{find}
+use Rattle.std.specs.FinMap.Entries.{find-where_key}
+use Rattle.tabled_grid.proofs.Members.{sorted-filter}
+use Rattle.tabled_grid.proofs.SortedEntries.{find_at, pairs-filter}
+use Rattle.tabled_spans.proofs.Common.{[], ◌<◌, ◌∙◌, ◌∷◌, ◌≡◌, ◌≤◌, ◌⊎◌, AllByRecursion, AreSorted, Axis, Bool, Columns, Entity, Grid, IsInside, IsOfRun, IsRun, IsSizeAt, Joins, List, MergesRuns, None, Option, Position, Rectangle, Rows, RunsFrom, Size, Some, SpanMap, T, across, ap, ap₂, arith, cases_Bool, cases_place, cond, count_along, false, false≢true, filter, find, further, get, inl, inr, is_eq, is_sorted, lines_in, map_grid, none-some, not, positions_exact, positions_total, refl, same_Some, same_map, size_of_run, subst, sym, tied, true, untied, with_sizes, ℕ}
 use Rattle.tabled_grid.specs.declared.config.entity.Entity.TheVariants.{Global}
+use Rattle.tabled_grid.specs.Spans.{pairs, position_cmp, rectangle}
 use Rattle.tabled_options.specs.Does.{Change, Each, EachUntil, Same, SameOr}
 use Rattle.tabled_spans.proofs.LineRuns.{none_left, run_all, run_before, run_named, run_on, run_still}
 use Rattle.tabled_spans.proofs.RunLists.{all_then, begins_named, none_before, set_run, sizes_full}
@@ -11,19 +15,23 @@ use Rattle.tabled_spans.proofs.SetSizes.{get-with_sizes, set_or}
 use Rattle.tabled_spans.specs.Lines.{MergesEach, RunsIn, is_named_by, line_at, names_line}
 
 -- what holds of all that is listed holds of what is found
-found_in : (P : Rectangle → Type 0) (es : List Rectangle) → AllByRecursion P es → (p : Position) (s : Size) → find position_cmp p es ≡ Some s → P (p, s)
+found_in : (P : Rectangle → Type 0) (es : List Rectangle) → AllByRecursion P es → (p : Position) (s : Size) → find_at p es ≡ Some s → P (rectangle p s)
 found_in P [] all p s is = absurd (none-some s is)
-found_in P (e ∷ es) all p s is = elim (cases_place p e.0) [
+found_in P (e ∷ es) all p s is = elim (cases_place p e.first) [
   | inl same ↦
       let here = subst (λ x. is_eq (position_cmp p x) ≡ true) same (tied p) in
-      let size = same_Some e.1 s (sym (ap (λ b. cond b (Some e.1) (find position_cmp p es)) here) ∙ is) in
-      subst P (ap₂ (λ (x : Position) (t : Size). (x, t)) (sym same) size) all.0
-  | inr other ↦ found_in P es all.1 p s (sym (ap (λ b. cond b (Some e.1) (find position_cmp p es)) (untied p e.0 other)) ∙ is)
+      let size = same_Some e.size s (sym (ap (λ b. cond b (Some e.size) (find_at p es)) here) ∙ is) in
+      subst P (ap₂ rectangle (sym same) size) all.0
+  | inr other ↦ found_in P es all.1 p s (sym (ap (λ b. cond b (Some e.size) (find_at p es)) (untied p e.first other)) ∙ is)
 ]
 
+-- the rectangles that are anchored where a test of places says yes
+abbrev kept_at : (Position → Bool) → List Rectangle → List Rectangle
+kept_at test es = filter (λ (e : Rectangle). test e.first) es
+
 -- a test of places leaves what is found at one, or nothing
-find_kept : (test : Position → Bool) (p : Position) (es : List Rectangle) → find position_cmp p (where_key position_cmp test es) ≡ cond (test p) (find position_cmp p es) None
-find_kept test p es = find-where_key position_cmp test p (λ x e. sym (ap test (positions_exact p x e))) es
+find_kept : (test : Position → Bool) (p : Position) (es : List Rectangle) → find_at p (kept_at test es) ≡ cond (test p) (find_at p es) None
+find_kept test p es = ap (find position_cmp p) (pairs-filter test es) ∙ find-where_key position_cmp test p (λ x e. sym (ap test (positions_exact p x e))) (pairs es)
 
 -- texts have as many lines as their cells
 pub same_lines : {A : Type 0} (text_of : A → List ℕ) (axis x : Axis) (g : Grid A) (many line : ℕ) → x ≡ across axis → many ≡ count_along x g → line < count_along (across axis) (map_grid text_of g) → line < many
@@ -36,12 +44,12 @@ same_lines text_of axis x g many line is count within = subst (λ (n : ℕ). lin
 module _ (axis : Axis) (g : Grid (List ℕ)) where
   -- the runs in some lines, as they are found
   pub record AreFound (is_in : ℕ → Bool) (m : SpanMap) (es : List Rectangle) : Type 0 where
-    pub sorted : T (is_sorted position_cmp es)
-    pub each : (p : Position) (s : Size) → find position_cmp p es ≡ Some s → (is_in (line_at axis p) ≡ true) × IsOfRun axis Global g m (p, s)
-    pub all : (p : Position) (many : ℕ) → is_in (line_at axis p) ≡ true → IsRun axis Global g m p many → find position_cmp p es ≡ Some (size_of_run axis many)
+    pub sorted : AreSorted es
+    pub each : (p : Position) (s : Size) → find_at p es ≡ Some s → (is_in (line_at axis p) ≡ true) × IsOfRun axis Global g m (rectangle p s)
+    pub all : (p : Position) (many : ℕ) → is_in (line_at axis p) ≡ true → IsRun axis Global g m p many → find_at p es ≡ Some (size_of_run axis many)
 
   pub are_found : (is_in : ℕ → Bool) (m : SpanMap) (es : List Rectangle) → RunsIn axis is_in g m es → AreFound is_in m es
-  are_found is_in m es listed = record { sorted = listed.sorted; each = found_in (λ (e : Rectangle). (is_in (line_at axis e.0) ≡ true) × IsOfRun axis Global g m e) es listed.each; all = listed.all }
+  are_found is_in m es listed = record { sorted = listed.sorted; each = found_in (λ (e : Rectangle). (is_in (line_at axis e.first) ≡ true) × IsOfRun axis Global g m e) es listed.each; all = listed.all }
 
   -- one entity before others
   module _ (e : Entity) (others : ℕ → Bool) (m : SpanMap) (es : List Rectangle) (found : AreFound (λ line. names_line axis e line || others line) m es) where
@@ -49,58 +57,58 @@ module _ (axis : Axis) (g : Grid (List ℕ)) where
     test p = names_line axis e (line_at axis p)
 
     abbrev here : List Rectangle
-    here = where_key position_cmp test es
+    here = kept_at test es
 
     abbrev rest : List Rectangle
-    rest = where_key position_cmp (λ p. not (test p)) es
+    rest = kept_at (λ p. not (test p)) es
 
     abbrev middle : SpanMap
     middle = with_sizes m here
 
-    in_middle : (p : Position) → get middle p ≡ set_or (cond (test p) (find position_cmp p es) None) (get m p)
-    in_middle p = get-with_sizes here m p (is_sorted-where_key position_cmp test es found.sorted) ∙ ap (λ (o : Option Size). set_or o (get m p)) (find_kept test p es)
+    in_middle : (p : Position) → get middle p ≡ set_or (cond (test p) (find_at p es) None) (get m p)
+    in_middle p = get-with_sizes here m p (sorted-filter (λ (e : Rectangle). test e.first) es found.sorted) ∙ ap (λ (o : Option Size). set_or o (get m p)) (find_kept test p es)
 
     merged_here : MergesRuns axis e g m middle
-    merged_here = record { each = λ p. by p (cases_Bool (test p)) (find position_cmp p es) refl }
+    merged_here = record { each = λ p. by p (cases_Bool (test p)) (find_at p es) refl }
       where
-        by : (p : Position) → (test p ≡ true) ⊎ (test p ≡ false) → (o : Option Size) → find position_cmp p es ≡ o → ((many : ℕ) × IsRun axis e g m p many × (get middle p ≡ Some (size_of_run axis many))) ⊎ (((many : ℕ) → IsRun axis e g m p many → ⊥) × (get middle p ≡ get m p))
+        by : (p : Position) → (test p ≡ true) ⊎ (test p ≡ false) → (o : Option Size) → find_at p es ≡ o → ((many : ℕ) × IsRun axis e g m p many × (get middle p ≡ Some (size_of_run axis many))) ⊎ (((many : ℕ) → IsRun axis e g m p many → ⊥) × (get middle p ≡ get m p))
         by p (inl t) None is = inr (λ many run. none-some (size_of_run axis many) (sym is ∙ found.all p many (ap (λ b. b || others (line_at axis p)) t) (run_all axis g m e p many t run)), in_middle p ∙ ap₂ (λ (b : Bool) (o : Option Size). set_or (cond b o None) (get m p)) t is)
         by p (inl t) (Some s) is =
             let run = (found.each p s is).1 in
             inl (run.0, run_on axis g m e p run.0 t run.1, in_middle p ∙ ap₂ (λ (b : Bool) (o : Option Size). set_or (cond b o None) (get m p)) t is ∙ ap (λ (x : Size). set_or (Some x) (get m p)) run.2 ∙ set_run axis run.0 run.1.some (get m p))
-        by p (inr f) o is = inr (λ many run. false≢true (sym f ∙ run_named axis e g m p many run), in_middle p ∙ ap (λ (b : Bool). set_or (cond b (find position_cmp p es) None) (get m p)) f)
+        by p (inr f) o is = inr (λ many run. false≢true (sym f ∙ run_named axis e g m p many run), in_middle p ∙ ap (λ (b : Bool). set_or (cond b (find_at p es) None) (get m p)) f)
 
     rest_found : AreFound others middle rest
     rest_found = record {
-      sorted = is_sorted-where_key position_cmp (λ p. not (test p)) es found.sorted;
+      sorted = sorted-filter (λ (e : Rectangle). not (test e.first)) es found.sorted;
       each = λ p s is. each p s is (cases_Bool (test p));
       all = λ p many is_in run. all p many is_in run (cases_Bool (test p));
     }
       where
-        each : (p : Position) (s : Size) → find position_cmp p rest ≡ Some s → (test p ≡ true) ⊎ (test p ≡ false) → (others (line_at axis p) ≡ true) × IsOfRun axis Global g middle (p, s)
-        each p s is (inl t) = absurd (none-some s (sym (find_kept (λ q. not (test q)) p es ∙ ap (λ b. cond (not b) (find position_cmp p es) None) t) ∙ is))
+        each : (p : Position) (s : Size) → find_at p rest ≡ Some s → (test p ≡ true) ⊎ (test p ≡ false) → (others (line_at axis p) ≡ true) × IsOfRun axis Global g middle (rectangle p s)
+        each p s is (inl t) = absurd (none-some s (sym (find_kept (λ q. not (test q)) p es ∙ ap (λ b. cond (not b) (find_at p es) None) t) ∙ is))
         each p s is (inr f) =
-            let it = found.each p s (sym (find_kept (λ q. not (test q)) p es ∙ ap (λ b. cond (not b) (find position_cmp p es) None) f) ∙ is) in
+            let it = found.each p s (sym (find_kept (λ q. not (test q)) p es ∙ ap (λ b. cond (not b) (find_at p es) None) f) ∙ is) in
             (sym (ap (λ b. b || others (line_at axis p)) f) ∙ it.0, (it.1.0, run_still axis e g m middle merged_here p it.1.0 f it.1.1, it.1.2))
 
-        all : (p : Position) (many : ℕ) → others (line_at axis p) ≡ true → IsRun axis Global g middle p many → (test p ≡ true) ⊎ (test p ≡ false) → find position_cmp p rest ≡ Some (size_of_run axis many)
+        all : (p : Position) (many : ℕ) → others (line_at axis p) ≡ true → IsRun axis Global g middle p many → (test p ≡ true) ⊎ (test p ≡ false) → find_at p rest ≡ Some (size_of_run axis many)
         all p many is_in run (inl t) = absurd (none_left axis e g m middle merged_here p many t run)
-        all p many is_in run (inr f) = find_kept (λ q. not (test q)) p es ∙ ap (λ b. cond (not b) (find position_cmp p es) None) f ∙ found.all p many (ap (λ b. b || others (line_at axis p)) f ∙ is_in) (run_before axis e g m middle merged_here p many f run)
+        all p many is_in run (inr f) = find_kept (λ q. not (test q)) p es ∙ ap (λ b. cond (not b) (find_at p es) None) f ∙ found.all p many (ap (λ b. b || others (line_at axis p)) f ∙ is_in) (run_before axis e g m middle merged_here p many f run)
 
     joined : with_sizes middle rest ≡ with_sizes m es
     joined = same_map positions_total positions_exact _ _ (λ q.
-        get-with_sizes rest middle q (is_sorted-where_key position_cmp (λ p. not (test p)) es found.sorted)
+        get-with_sizes rest middle q (sorted-filter (λ (e : Rectangle). not (test e.first)) es found.sorted)
         ∙ ap₂ set_or (find_kept (λ p. not (test p)) q es) (in_middle q)
-        ∙ (elim (test q) as (λ b. set_or (cond (not b) (find position_cmp q es) None) (set_or (cond b (find position_cmp q es) None) (get m q)) ≡ set_or (find position_cmp q es) (get m q)) [ true ↦ twice (find position_cmp q es) (get m q) | false ↦ refl ])
+        ∙ (elim (test q) as (λ b. set_or (cond (not b) (find_at q es) None) (set_or (cond b (find_at q es) None) (get m q)) ≡ set_or (find_at q es) (get m q)) [ true ↦ twice (find_at q es) (get m q) | false ↦ refl ])
         ∙ sym (get-with_sizes es m q found.sorted))
       where
         twice : (o old : Option Size) → set_or None (set_or o old) ≡ set_or o old
         twice o old = refl
 
   pub each_merged : (es : List Entity) (m : SpanMap) (sizes : List Rectangle) → AreFound (is_named_by axis es) m sizes → MergesEach axis es g m (with_sizes m sizes)
-  each_merged [] m sizes found = same_map positions_total positions_exact _ _ (λ q. get-with_sizes sizes m q found.sorted ∙ none q (find position_cmp q sizes) refl)
+  each_merged [] m sizes found = same_map positions_total positions_exact _ _ (λ q. get-with_sizes sizes m q found.sorted ∙ none q (find_at q sizes) refl)
     where
-      none : (q : Position) (o : Option Size) → find position_cmp q sizes ≡ o → set_or (find position_cmp q sizes) (get m q) ≡ get m q
+      none : (q : Position) (o : Option Size) → find_at q sizes ≡ o → set_or (find_at q sizes) (get m q) ≡ get m q
       none q None is = ap (λ (o : Option Size). set_or o (get m q)) is
       none q (Some s) is = absurd (false≢true (found.each q s is).0)
   each_merged (e ∷ es) m sizes found = (
@@ -150,21 +158,21 @@ module _ (axis : Axis) (g : Grid (List ℕ)) where
   pub runs_named : (e : Entity) (m : SpanMap) (es : List Rectangle) → RunsFrom axis e g m 0 0 es → RunsIn axis (names_line axis e) g m es
   runs_named e m es listed = record {
     sorted = listed.sorted;
-    each = all_then {Q = λ (a : Rectangle). (names_line axis e (line_at axis a.0) ≡ true) × IsOfRun axis Global g m a} (λ a it. let named = run_named axis e g m a.0 it.0 it.1 in (named, (it.0, run_all axis g m e a.0 it.0 named it.1, it.2))) es listed.each;
+    each = all_then {Q = λ (a : Rectangle). (names_line axis e (line_at axis a.first) ≡ true) × IsOfRun axis Global g m a} (λ a it. let named = run_named axis e g m a.first it.0 it.1 in (named, (it.0, run_all axis g m e a.first it.0 named it.1, it.2))) es listed.each;
     all = λ p many named run. listed.all p many (run_on axis g m e p many named run) (none_before p);
   }
 
   -- those of the table, in some of its lines
-  pub runs_kept : (is_in : ℕ → Bool) (m : SpanMap) (es : List Rectangle) → RunsFrom axis Global g m 0 0 es → RunsIn axis is_in g m (filter (λ (e : Rectangle). is_in (line_at axis e.0)) es)
+  pub runs_kept : (is_in : ℕ → Bool) (m : SpanMap) (es : List Rectangle) → RunsFrom axis Global g m 0 0 es → RunsIn axis is_in g m (filter (λ (e : Rectangle). is_in (line_at axis e.first)) es)
   runs_kept is_in m es listed = record {
-    sorted = is_sorted-where_key position_cmp (λ p. is_in (line_at axis p)) es listed.sorted;
+    sorted = sorted-filter (λ (e : Rectangle). is_in (line_at axis e.first)) es listed.sorted;
     each = kept es listed.each;
-    all = λ p many is run. find_kept (λ q. is_in (line_at axis q)) p es ∙ ap (λ b. cond b (find position_cmp p es) None) is ∙ listed.all p many run (none_before p);
+    all = λ p many is run. find_kept (λ q. is_in (line_at axis q)) p es ∙ ap (λ b. cond b (find_at p es) None) is ∙ listed.all p many run (none_before p);
   }
     where
-      kept : (rest : List Rectangle) → AllByRecursion (IsOfRun axis Global g m) rest → AllByRecursion (λ (e : Rectangle). (is_in (line_at axis e.0) ≡ true) × IsOfRun axis Global g m e) (filter (λ (e : Rectangle). is_in (line_at axis e.0)) rest)
+      kept : (rest : List Rectangle) → AllByRecursion (IsOfRun axis Global g m) rest → AllByRecursion (λ (e : Rectangle). (is_in (line_at axis e.first) ≡ true) × IsOfRun axis Global g m e) (filter (λ (e : Rectangle). is_in (line_at axis e.first)) rest)
       kept [] each = tt
-      kept (a ∷ rest) each = elim (is_in (line_at axis a.0)) as (λ b. is_in (line_at axis a.0) ≡ b → AllByRecursion (λ (e : Rectangle). (is_in (line_at axis e.0) ≡ true) × IsOfRun axis Global g m e) (cond b (a ∷ filter (λ (e : Rectangle). is_in (line_at axis e.0)) rest) (filter (λ (e : Rectangle). is_in (line_at axis e.0)) rest))) [
+      kept (a ∷ rest) each = elim (is_in (line_at axis a.first)) as (λ b. is_in (line_at axis a.first) ≡ b → AllByRecursion (λ (e : Rectangle). (is_in (line_at axis e.first) ≡ true) × IsOfRun axis Global g m e) (cond b (a ∷ filter (λ (e : Rectangle). is_in (line_at axis e.first)) rest) (filter (λ (e : Rectangle). is_in (line_at axis e.first)) rest))) [
         | true ↦ λ t. ((t, each.0), kept rest each.1)
         | false ↦ λ f. kept rest each.1
       ] refl

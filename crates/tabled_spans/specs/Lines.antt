@@ -1,10 +1,11 @@
 -- Merges on many entities: the lines that they name whole, and the runs in these. A line goes the way of the runs.
-use Rattle.std.specs.Prelude.{◌≡◌, ◌<◌, ◌==◌, ℕ, Bool, true, false, List, [], ◌∷◌, T, Some, get_or, length}
-use Rattle.std.specs.FinMap.{find, is_sorted}
+use Rattle.std.specs.Prelude.{◌≡◌, ◌<◌, ◌==◌, ℕ, Bool, true, false, List, [], ◌∷◌, Some, get_or, length}
+use Rattle.std.specs.FinMap.{find}
 use Rattle.std.specs.List.{AllByRecursion, list_any}
 use Rattle.tabled_grid.specs.Axis.{across, line_of}
 use Rattle.tabled_grid.specs.Grid.{Grid}
-use Rattle.tabled_grid.specs.Spans.{Rectangle, SpanMap, position_cmp}
+use Rattle.tabled_grid.specs.Spans.{AreSorted, SpanMap, pairs, position_cmp}
+use Rattle.tabled_grid.specs.declared.config.rectangle.Rectangle.{Rectangle}
 use Rattle.tabled_grid.specs.declared.config.entity.Entity.{Entity}
 use Rattle.tabled_grid.specs.declared.config.entity.Entity.TheVariants.{Global, Column, Row}
 use Rattle.tabled_grid.specs.declared.config.position.Position.{Position}
@@ -52,6 +53,6 @@ line_at axis p = line_of (across axis) p
 
 -- the anchors and sizes of the runs in some lines, row by row
 pub record RunsIn (axis : Axis) (is_in : ℕ → Bool) (g : Grid (List ℕ)) (m : SpanMap) (sizes : List Rectangle) : Type 0 where
-  pub sorted : T (is_sorted position_cmp sizes)
-  pub each : AllByRecursion (λ (anchor : Rectangle). (is_in (line_at axis anchor.0) ≡ true) × IsOfRun axis Global g m anchor) sizes
-  pub all : (p : Position) (many : ℕ) → is_in (line_at axis p) ≡ true → IsRun axis Global g m p many → find position_cmp p sizes ≡ Some (size_of_run axis many)
+  pub sorted : AreSorted sizes
+  pub each : AllByRecursion (λ (anchor : Rectangle). (is_in (line_at axis anchor.first) ≡ true) × IsOfRun axis Global g m anchor) sizes
+  pub all : (p : Position) (many : ℕ) → is_in (line_at axis p) ≡ true → IsRun axis Global g m p many → find position_cmp p (pairs sizes) ≡ Some (size_of_run axis many)

@@ -3,7 +3,7 @@
 ghost use Rattle.std.specs.Iterator.{AlwaysYields, IsFinite};
 ghost use Rattle.std.specs.Prelude.{◌≡◌, false, filter, get_or, IfOk, IsOk, List, OnErr, OnOk, []};
 ghost use Rattle.tabled_grid.specs.Grid.{map_grid};
-ghost use Rattle.tabled_grid.specs.Spans.{Rectangle};
+ghost use Rattle.tabled_grid.specs.declared.config.rectangle.Rectangle.{Rectangle};
 ghost use Rattle.tabled_grid.specs.declared.config.entity.Entity.{Entity};
 ghost use Rattle.tabled_spans.specs.Lines.{MergesEach, RunsIn, is_among, line_at};
 
@@ -79,15 +79,15 @@ where
 
 /// Keeps what is anchored in marked lines.
 fn keep_marked(sizes: &mut Vec<Rectangle>, axis: Axis, marks: &[bool])
-    ensures { sizes.new.items ≡ filter (λ (e : Rectangle). get_or marks.now (line_at axis e.0) false) sizes.old.items }
+    ensures { sizes.new.items ≡ filter (λ (e : Rectangle). get_or marks.now (line_at axis e.first) false) sizes.old.items }
 {
     sizes.retain(|size| is_marked(marks, axis, *size));
 }
 
 /// Says whether the line that a rectangle is anchored in is marked.
 fn is_marked(marks: &[bool], axis: Axis, anchor: Rectangle) -> bool
-    ensures { result ≡ get_or marks.now (line_at axis anchor.0) false }
+    ensures { result ≡ get_or marks.now (line_at axis anchor.first) false }
 {
-    let line = axis.across().line_of(anchor.0);
+    let line = axis.across().line_of(anchor.first);
     line < marks.len() && marks[line]
 }

@@ -32,7 +32,7 @@ where
     ensures { IfOk result (λ sizes. RunsFrom axis entity (map_grid R.Cell.text_of (R.grid records.now)) cfg.now 0 0 sizes.items) }
 {
     let block = block_of(entity, records.count_rows(), records.count_columns());
-    let (first, size) = block;
+    let Rectangle { first, size } = block;
     let cover = CoverMap::of_block(alloc, cfg, first, size.height, size.width)?;
     runs(alloc, records, cfg, &cover, axis, block)
 }
