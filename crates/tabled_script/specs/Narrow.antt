@@ -1,6 +1,5 @@
 -- Tables whose pictures have at most n columns.
 use Rattle.std.specs.Prelude.{◌≡◌, ◌+◌, ◌≤◌, ℕ, true, List, [], ◌∷◌, Option}
-use Rattle.std.specs.FinMap.{entries}
 use Rattle.std.specs.Io.KnownBytes.{Appends}
 use Rattle.std.specs.List.{AllByRecursion}
 use Rattle.tabled_draw.specs.Marks.{IsFine}
@@ -11,7 +10,7 @@ use Rattle.tabled_draw.specs.declared.alignment.Alignment.{Alignment}
 use Rattle.tabled_draw.specs.declared.style.Style.{Style}
 use Rattle.tabled_grid.specs.Fitting.{fitting}
 use Rattle.tabled_grid.specs.Grid.{Grid}
-use Rattle.tabled_grid.specs.Spans.{SpanMap}
+use Rattle.tabled_grid.specs.Spans.{SpanMap, rectangles}
 use Rattle.tabled_grid.specs.declared.config.entity.Entity.TheVariants.{Cell}
 use Rattle.tabled_options.specs.Writes.{with_writes}
 use Rattle.tabled_script.specs.declared.cuts.Cut.{Cut}
@@ -31,7 +30,7 @@ pub record AreNarrowed (n : ℕ) (style : Style) (m : SpanMap) (old new : Grid (
 
 -- no line of a picture takes more than n columns, where no character of its borders takes more than one
 abbrev pub HasNarrowLines : ℕ → Style → List Alignment → Grid (List ℕ) → SpanMap → Type 0
-HasNarrowLines n style aligns g m = IsFine style → AllByRecursion (λ line. text_width line ≤ n) (picture style aligns g (fitting g.rows g.columns (entries m)))
+HasNarrowLines n style aligns g m = IsFine style → AllByRecursion (λ line. text_width line ≤ n) (picture style aligns g (fitting g.rows g.columns (rectangles m)))
 
 -- the bytes of a picture of at most n columns
 pub record IsNarrowPicture (n : ℕ) (style : Style) (aligns : List Alignment) (g : Grid (List ℕ)) (m : SpanMap) (bytes : List ℕ) : Type 0 where

@@ -3,7 +3,7 @@
 use crate::limits::{Asked, limits, taken_between};
 use std::alloc::{AllocError, Global};
 use tabled_draw::{Lines, Style};
-use tabled_grid::config::{CoverMap, Position, SpannedConfig};
+use tabled_grid::config::{CoverMap, Position, Rectangle, SpannedConfig};
 use tabled_grid::records::CellText;
 use tabled_language::LentText;
 use unicode_width::{UnicodeWidthChar, UnicodeWidthStr};
@@ -40,14 +40,9 @@ pub(crate) fn cuts(
             }
         }
     }
-    for &(at, size) in spans.anchors() {
-        grow(
-            &mut asked,
-            style.columns,
-            at.col,
-            size.width,
-            asked_at(records, at),
-        );
+    for &Rectangle { first, size } in spans.anchors() {
+        let text = asked_at(records, first);
+        grow(&mut asked, style.columns, first.col, size.width, text);
     }
     let limits = limits(alloc, &asked, style.columns, width)?;
     let mut cuts = Vec::new(alloc);

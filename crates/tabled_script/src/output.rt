@@ -1,11 +1,11 @@
 //! How a table is written.
 
-ghost use Rattle.std.specs.FinMap.{entries};
 ghost use Rattle.std.specs.Io.KnownBytes.{Appends};
 ghost use Rattle.std.specs.List.{AllByRecursion, flat_map};
 ghost use Rattle.std.specs.Prelude.{◌≡◌, ◌<◌, ◌≤◌, ◌+◌, [], ◌∷◌, ◌++◌, codes, length, map, IfOk, OnErr, OnOk};
 ghost use Rattle.std.specs.Str.{IsUtf8};
 ghost use Rattle.tabled_grid.specs.Grid.{IsEven, grid_of, map_items, width_of};
+ghost use Rattle.tabled_grid.specs.Spans.{rectangles};
 ghost use Rattle.tabled_language.specs.Lent.{bytes_of};
 ghost use Rattle.tabled_language.specs.Output.{escaped, line, print, span_line, table_lines};
 ghost use Rattle.tabled_language.specs.Word.{largest_size};
@@ -18,7 +18,7 @@ use crate::held::{
 };
 use std::alloc::{AllocError, Global};
 use std::io::{self, Write};
-use tabled_grid::config::SpannedConfig;
+use tabled_grid::config::{Rectangle, SpannedConfig};
 use tabled_grid::records::{CellText, ExactRecords, Records};
 use tabled_language::LentText;
 
@@ -118,11 +118,12 @@ pub(crate) fn write_word<W: Write>(writer: &mut W, held: &mut Held, text: &str) 
 /// Writes, or holds, the lines of merged cells.
 fn write_spans<W: Write>(writer: &mut W, held: &mut Held, cfg: &SpannedConfig) -> io::Result<()>
     requires { length held.old < PART }
-    ensures sends { OnOk result (Sends (W.contents writer.old) held.old (W.contents writer.new) held.new (flat_map span_line (entries cfg.now))) }
+    ensures sends { OnOk result (Sends (W.contents writer.old) held.old (W.contents writer.new) held.new (flat_map span_line (rectangles cfg.now))) }
     ensures less { OnOk result (length held.new < PART) }
 {
-    for (pos, size) in cfg.anchors() {
-        let numbers = [pos.row, pos.col, size.height, size.width];
+    for rectangle in cfg.anchors() {
+        let Rectangle { first, size } = *rectangle;
+        let numbers = [first.row, first.col, size.height, size.width];
         hold_numbers(held, "span", &numbers);
         send(writer, held)?;
     }

@@ -7,7 +7,7 @@
 ghost use Rattle.std.specs.Prelude.{IfOk};
 
 use std::alloc::{AllocError, Global};
-use tabled_grid::config::{Entity, Position, SpannedConfig};
+use tabled_grid::config::{Entity, Position, Rectangle, SpannedConfig};
 use tabled_grid::records::{
     CellText, ExactRecords, GridStore, PeekableRecords, Records, RecordsMut, Resizable, Text,
     VecRecords,
@@ -154,8 +154,8 @@ pub fn push_merged(
     words: &mut String,
     cfg: &SpannedConfig,
 ) -> Result<(), AllocError> {
-    for (pos, size) in cfg.anchors().iter() {
-        let (row, col) = (pos.row, pos.col);
+    for Rectangle { first, size } in cfg.anchors().iter() {
+        let (row, col) = (first.row, first.col);
         let (height, width) = (size.height, size.width);
         let rectangle = format!(in alloc; "{row}.{col}:{height}x{width}")?;
         push_word(words, rectangle.as_str())?;

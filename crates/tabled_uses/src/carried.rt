@@ -1,11 +1,11 @@
 //! Merged cells that are carried along: callers that rely on it, done or refused.
 
 ghost use Rattle.std.specs.Prelude.{◌≡◌, IfOk, IsOk, OnErr, OnOk, Some};
-ghost use Rattle.std.specs.FinMap as map;
 ghost use Rattle.std.specs.Option.{IfSome};
 ghost use Rattle.tabled_grid.specs.Entity.{place};
 ghost use Rattle.tabled_grid.specs.Fitting.{Fits, keep_fitting};
-ghost use Rattle.tabled_grid.specs.Spans.{Rectangle, sized};
+ghost use Rattle.tabled_grid.specs.Spans.{rectangle, rectangles, sized};
+ghost use Rattle.tabled_grid.specs.declared.config.rectangle.Rectangle.{Rectangle};
 ghost use Rattle.tabled_carry.specs.Images.{Carries, HasArea, carried};
 
 use crate::geometry::changes;
@@ -133,14 +133,17 @@ pub fn carries_along<M: MovesRectangles>(
 
 /// Where the merged cells go that are anchored at the first place, two rows and three columns of them.
 pub fn first_goes<M: MovesRectangles>(moves: &M) -> Option<Rectangle>
-    ensures carries { IfSome result (λ f. Carries (M.places moves.now) (place 0 0, sized 2 3) f) }
-    ensures finds { (f : Rectangle) → Carries (M.places moves.now) (place 0 0, sized 2 3) f → HasArea f → result ≡ Some f }
+    ensures carries { IfSome result (λ f. Carries (M.places moves.now) (rectangle (place 0 0) (sized 2 3)) f) }
+    ensures finds { (f : Rectangle) → Carries (M.places moves.now) (rectangle (place 0 0) (sized 2 3)) f → HasArea f → result ≡ Some f }
 {
     let size = Size {
         height: 2,
         width: 3,
     };
-    moves.new_rectangle((Position::new(0, 0), size))
+    moves.new_rectangle(Rectangle {
+        first: Position::new(0, 0),
+        size,
+    })
 }
 
 /// Turns a table upside down whose merged cells fit it, which no want of memory stops.
@@ -162,7 +165,7 @@ where
 
 /// Gives the list of a map's rectangles away.
 pub fn lists_rectangles(cfg: SpannedConfig) -> Vec<Rectangle>
-    ensures { result.items ≡ map.entries cfg }
+    ensures { result.items ≡ rectangles cfg }
 {
     cfg.into_anchors()
 }

@@ -3,7 +3,7 @@
 use Side::{Height, Width};
 use std::alloc::{AllocError, Global};
 use std::test::Fail;
-use tabled_grid::config::{CoverMap, Position, Size, SpannedConfig};
+use tabled_grid::config::{CoverMap, Position, Rectangle, Size, SpannedConfig};
 use tabled_testing::{merged, push_merged};
 
 /// Whether merged cells are spelled so.
@@ -228,7 +228,7 @@ fn make(alloc: Global, spans: &mut SpannedConfig, call: Call) -> Result<(), Allo
     match call {
         Call::RowSpan => spans.set_row_span(alloc, pos, 2),
         Call::ColumnSpan => spans.set_column_span(alloc, pos, 2),
-        Call::Sizes => spans.set_sizes(alloc, &[(pos, size)]),
+        Call::Sizes => spans.set_sizes(alloc, &[Rectangle { first: pos, size }]),
         Call::Copy => {
             spans.copy(alloc)?;
             Ok(())
