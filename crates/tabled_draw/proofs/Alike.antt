@@ -1,5 +1,5 @@
 -- Tables whose texts differ only where merged cells hide them have one picture.
-use Rattle.tabled_draw.proofs.Common.{Alignment, AreSpanSizes, Columns, Grid, In, List, Member, None, Option, Position, Rectangle, Rows, Some, SpanMap, Style, [], across, aligned, alignment_in, ap, ap₂, are_none, arith, arms, asks, border, border_line, by_number, cases_Bool, column_between, cond, cond-false, count_along, differ, each, edge_between, encode_utf8_all, entries, eqb, false, false_from_ne_true, false≢true, fitting, fold, get_or, grown_for, grown_sizes, heights, holds, holds-true, in_order, inl, inr, is_hidden_in, largest, line_of, line_size, lines_around, lines_in, lines_of_row, lines_shown, mark, not, own, own_sizes, owner_in, picture, picture_bytes, picture_line, place, place_in, refl, replicate, room, same_place, same_place-self, same_place-true, shows, shows_in, start_of, subst, sym, text_of_cell, top, true, widths, with_newlines, ℕ, ◌&&◌, ◌++◌, ◌+◌, ◌-◌, ◌<◌, ◌==◌, ◌||◌, ◌∙◌, ◌∷◌, ◌≡◌, ◌⊎◌}
+use Rattle.tabled_draw.proofs.Common.{Alignment, AreSpanSizes, Columns, Grid, In, List, Member, None, Option, Position, Rectangle, Rows, Some, SpanMap, Style, [], across, aligned, alignment_in, ap, ap₂, are_none, arith, arms, asks, border, border_line, by_number, cases_Bool, column_between, cond, cond-false, count_along, differ, each, edge_between, encode_utf8_all, rectangles, eqb, false, false_from_ne_true, false≢true, fitting, fold, get_or, grown_for, grown_sizes, heights, holds, holds-true, in_order, inl, inr, is_hidden_in, largest, line_of, line_size, lines_around, lines_in, lines_of_row, lines_shown, mark, not, own, own_sizes, owner_in, picture, picture_bytes, picture_line, place, place_in, refl, replicate, room, same_place, same_place-self, same_place-true, shows, shows_in, start_of, subst, sym, text_of_cell, top, true, widths, with_newlines, ℕ, ◌&&◌, ◌++◌, ◌+◌, ◌-◌, ◌<◌, ◌==◌, ◌||◌, ◌∙◌, ◌∷◌, ◌≡◌, ◌⊎◌}
 use Rattle.std.proofs.lemmas.Bool.{and_parts}
 use Rattle.tabled_draw.proofs.Each.{each-same}
 use Rattle.tabled_draw.proofs.Fitting.{kept-well}
@@ -17,36 +17,36 @@ module _ (style : Style) (aligns : List Alignment) (g h : Grid (List ℕ)) (es :
   -- ---- texts that are seen
 
   -- nothing hides the place where an owner begins
-  owner-seen : (p : Position) → p.row < g.rows → p.col < g.columns → is_hidden_in es (owner_in es p).0 ≡ false
-  owner-seen p low far = false_from_ne_true _ (λ t. by (any-member (λ (e : Rectangle). holds e (owner_in es p).0 && not (same_place e.0 (owner_in es p).0)) es t))
+  owner-seen : (p : Position) → p.row < g.rows → p.col < g.columns → is_hidden_in es (owner_in es p).first ≡ false
+  owner-seen p low far = false_from_ne_true _ (λ t. by (any-member (λ (e : Rectangle). holds e (owner_in es p).first && not (same_place e.first (owner_in es p).first)) es t))
     where
       lies : LiesIn g.rows g.columns (owner_in es p)
       lies = owner-lies g.rows g.columns es well p low far
 
-      here : In (owner_in es p) (owner_in es p).0
+      here : In (owner_in es p) (owner_in es p).first
       here = record { top = omega arith; bottom = omega (arith, lies.high); left = omega arith; right = omega (arith, lies.wide) }
 
-      begins : (e : Rectangle) → Member e es → In e (owner_in es p).0 → Owned es p (owner_in es p) → e.0 ≡ (owner_in es p).0
-      begins e m inside (held n k) = ap (λ (x : Rectangle). x.0) (well.apart e (owner_in es p) (owner_in es p).0 m n inside here)
-      begins e m inside (alone is never) = absurd (never e m (subst (λ (x : Rectangle). In e x.0) is inside))
+      begins : (e : Rectangle) → Member e es → In e (owner_in es p).first → Owned es p (owner_in es p) → e.first ≡ (owner_in es p).first
+      begins e m inside (held n k) = ap (λ (x : Rectangle). x.first) (well.apart e (owner_in es p) (owner_in es p).first m n inside here)
+      begins e m inside (alone is never) = absurd (never e m (subst (λ (x : Rectangle). In e x.first) is inside))
 
-      by : (e : Rectangle) × Member e es × ((holds e (owner_in es p).0 && not (same_place e.0 (owner_in es p).0)) ≡ true) → ⊥
+      by : (e : Rectangle) × Member e es × ((holds e (owner_in es p).first && not (same_place e.first (owner_in es p).first)) ≡ true) → ⊥
       by found =
           let e = found.0 in
-          let parts = and_parts (holds e (owner_in es p).0) (not (same_place e.0 (owner_in es p).0)) found.2 in
-          let same : e.0 ≡ (owner_in es p).0 = begins e found.1 (holds-true e (owner_in es p).0 parts.0) (owned es p) in
-          false≢true (sym (ap (λ q. not (same_place q (owner_in es p).0)) same ∙ ap not (same_place-self (owner_in es p).0)) ∙ parts.1)
+          let parts = and_parts (holds e (owner_in es p).first) (not (same_place e.first (owner_in es p).first)) found.2 in
+          let same : e.first ≡ (owner_in es p).first = begins e found.1 (holds-true e (owner_in es p).first parts.0) (owned es p) in
+          false≢true (sym (ap (λ q. not (same_place q (owner_in es p).first)) same ∙ ap not (same_place-self (owner_in es p).first)) ∙ parts.1)
 
-  owner-text : (p : Position) → p.row < g.rows → p.col < g.columns → text_of_cell g (owner_in es p).0 ≡ text_of_cell h (owner_in es p).0
+  owner-text : (p : Position) → p.row < g.rows → p.col < g.columns → text_of_cell g (owner_in es p).first ≡ text_of_cell h (owner_in es p).first
   owner-text p low far =
       let lies : LiesIn g.rows g.columns (owner_in es p) = owner-lies g.rows g.columns es well p low far in
-      alike.texts (owner_in es p).0 (record { inside = record { row = omega (arith, lies.bottom, lies.high); col = omega (arith, lies.right, lies.wide) }; seen = owner-seen p low far })
+      alike.texts (owner_in es p).first (record { inside = record { row = omega (arith, lies.bottom, lies.high); col = omega (arith, lies.right, lies.wide) }; seen = owner-seen p low far })
 
-  member-text : (e : Rectangle) → Member e es → text_of_cell g e.0 ≡ text_of_cell h e.0
+  member-text : (e : Rectangle) → Member e es → text_of_cell g e.first ≡ text_of_cell h e.first
   member-text e m =
       let lies : LiesIn g.rows g.columns e = well.lies e m in
-      subst (λ (x : Rectangle). text_of_cell g x.0 ≡ text_of_cell h x.0) (member-owner g.rows g.columns es well e e.0 m (record { top = omega arith; bottom = omega (arith, lies.high); left = omega arith; right = omega (arith, lies.wide) }))
-      (owner-text e.0 (omega (arith, lies.bottom, lies.high)) (omega (arith, lies.right, lies.wide)))
+      subst (λ (x : Rectangle). text_of_cell g x.first ≡ text_of_cell h x.first) (member-owner g.rows g.columns es well e e.first m (record { top = omega arith; bottom = omega (arith, lies.high); left = omega arith; right = omega (arith, lies.wide) }))
+      (owner-text e.first (omega (arith, lies.bottom, lies.high)) (omega (arith, lies.right, lies.wide)))
 
   -- ---- sizes
 
@@ -55,11 +55,11 @@ module _ (style : Style) (aligns : List Alignment) (g h : Grid (List ℕ)) (es :
   count-alike Columns = alike.columns
 
   own-alike : (axis : Axis) (p : Position) → p.row < g.rows → p.col < g.columns → own axis g es p ≡ own axis h es p
-  own-alike axis p low far = by (cases_Bool (same_place (owner_in es p).0 p))
+  own-alike axis p low far = by (cases_Bool (same_place (owner_in es p).first p))
     where
-      by : (same_place (owner_in es p).0 p ≡ true) ⊎ (same_place (owner_in es p).0 p ≡ false) → own axis g es p ≡ own axis h es p
-      by (inl t) = ap (λ x. cond (same_place (owner_in es p).0 p && (lines_in axis (owner_in es p).1 == 1)) (asks axis x) 0) (subst (λ q. text_of_cell g q ≡ text_of_cell h q) (same_place-true (owner_in es p).0 p t) (owner-text p low far))
-      by (inr f) = cond-false _ _ _ (ap (λ b. b && (lines_in axis (owner_in es p).1 == 1)) f) ∙ sym (cond-false _ _ _ (ap (λ b. b && (lines_in axis (owner_in es p).1 == 1)) f))
+      by : (same_place (owner_in es p).first p ≡ true) ⊎ (same_place (owner_in es p).first p ≡ false) → own axis g es p ≡ own axis h es p
+      by (inl t) = ap (λ x. cond (same_place (owner_in es p).first p && (lines_in axis (owner_in es p).size == 1)) (asks axis x) 0) (subst (λ q. text_of_cell g q ≡ text_of_cell h q) (same_place-true (owner_in es p).first p t) (owner-text p low far))
+      by (inr f) = cond-false _ _ _ (ap (λ b. b && (lines_in axis (owner_in es p).size == 1)) f) ∙ sym (cond-false _ _ _ (ap (λ b. b && (lines_in axis (owner_in es p).size == 1)) f))
 
   own_sizes-alike : (axis : Axis) → own_sizes axis g es ≡ own_sizes axis h es
   own_sizes-alike axis =
@@ -70,14 +70,14 @@ module _ (style : Style) (aligns : List Alignment) (g h : Grid (List ℕ)) (es :
       ∙ ap (λ n. each n (of_line h)) (count-alike axis)
 
   grown-alike : (axis : Axis) (s : List ℕ) (e : Rectangle) → Member e es → grown_for axis style g s e ≡ grown_for axis style h s e
-  grown-alike axis s e m = ap₂ (λ n text. grown_sizes axis (line_size (lines_around axis style) n) s (line_of axis e.0) (lines_in axis e.1) (asks axis text)) (count-alike axis) (member-text e m)
+  grown-alike axis s e m = ap₂ (λ n text. grown_sizes axis (line_size (lines_around axis style) n) s (line_of axis e.first) (lines_in axis e.size) (asks axis text)) (count-alike axis) (member-text e m)
 
   fold-alike : (axis : Axis) (xs : List Rectangle) (s : List ℕ) → ((e : Rectangle) → Member e xs → Member e es) → fold (grown_for axis style g) s xs ≡ fold (grown_for axis style h) s xs
   fold-alike axis [] s among = refl
   fold-alike axis (e ∷ xs) s among = ap (λ t. fold (grown_for axis style g) t xs) (grown-alike axis s e (among e (inl refl))) ∙ fold-alike axis xs (grown_for axis style h s e) (λ x m. among x (inr m))
 
   order-alike : (axis : Axis) → in_order axis g es ≡ in_order axis h es
-  order-alike axis = ap (λ n. by_number (λ (e : Rectangle). lines_in axis e.1) (n + 1) (by_number (λ (e : Rectangle). line_of axis e.0) n es)) (count-alike axis)
+  order-alike axis = ap (λ n. by_number (λ (e : Rectangle). lines_in axis e.size) (n + 1) (by_number (λ (e : Rectangle). line_of axis e.first) n es)) (count-alike axis)
 
   sizes-alike : (axis : Axis) → sizes axis style g es ≡ sizes axis style h es
   unfolding sizes
@@ -94,10 +94,10 @@ module _ (style : Style) (aligns : List Alignment) (g h : Grid (List ℕ)) (es :
   owner-alike : (i j : ℕ) → owner g.rows g.columns es i j ≡ owner h.rows h.columns es i j
   owner-alike i j = ap₂ (λ r c. owner r c es i j) alike.rows alike.columns
 
-  shows-alike : (n : ℕ) (o : Rectangle) → text_of_cell g o.0 ≡ text_of_cell h o.0 → shows style aligns g es n o ≡ shows style aligns h es n o
-  shows-alike n o text = ap₂ (aligned (alignment_in aligns o.0.col))
-      (ap₂ (λ k s. room Columns (line_size style.columns k) s o.0.col o.1.width) alike.columns (sizes-alike Columns))
-      (ap₂ (λ t k. get_or (lines_shown t) k []) text (ap₂ (λ a b. n - a - b) (start-alike Rows o.0.row) (border-alike Rows o.0.row)))
+  shows-alike : (n : ℕ) (o : Rectangle) → text_of_cell g o.first ≡ text_of_cell h o.first → shows style aligns g es n o ≡ shows style aligns h es n o
+  shows-alike n o text = ap₂ (aligned (alignment_in aligns o.first.col))
+      (ap₂ (λ k s. room Columns (line_size style.columns k) s o.first.col o.size.width) alike.columns (sizes-alike Columns))
+      (ap₂ (λ t k. get_or (lines_shown t) k []) text (ap₂ (λ a b. n - a - b) (start-alike Rows o.first.row) (border-alike Rows o.first.row)))
 
   shows_in-alike : (n i j : ℕ) → shows_in style aligns g es n j (owner g.rows g.columns es i (j + 1)) ≡ shows_in style aligns h es n j (owner g.rows g.columns es i (j + 1))
   shows_in-alike n i j = by (owner g.rows g.columns es i (j + 1)) refl
@@ -106,8 +106,8 @@ module _ (style : Style) (aligns : List Alignment) (g h : Grid (List ℕ)) (es :
       by None e = refl
       by (Some o) e =
           let s = owner-some g.rows g.columns es i (j + 1) o e in
-          let text : text_of_cell g o.0 ≡ text_of_cell h o.0 = subst (λ (x : Rectangle). text_of_cell g x.0 ≡ text_of_cell h x.0) (sym s.is) (owner-text (place s.row s.col) s.below s.right) in
-          ap (λ x. cond (eqb o.0.col j) x []) (shows-alike n o text)
+          let text : text_of_cell g o.first ≡ text_of_cell h o.first = subst (λ (x : Rectangle). text_of_cell g x.first ≡ text_of_cell h x.first) (sym s.is) (owner-text (place s.row s.col) s.below s.right) in
+          ap (λ x. cond (eqb o.first.col j) x []) (shows-alike n o text)
 
   edge-alike : (u d j : ℕ) → edge_between style g es u d j ≡ edge_between style h es u d j
   edge-alike u d j = ap₂ (λ r c. cond (are_none (arms (owner r c es u j) (owner r c es u (j + 1)) (owner r c es d j) (owner r c es d (j + 1)))) []
@@ -140,8 +140,8 @@ module _ (style : Style) (aligns : List Alignment) (g h : Grid (List ℕ)) (es :
       ap (cond ((g.rows == 0) || (g.columns == 0)) []) (ap₂ (λ x y. x ++ y) (each-same (lines_of_row style aligns g es) (lines_of_row style aligns h es) g.rows (λ i less. row-alike i)) (border_line-alike g.rows))
       ∙ ap₂ (λ r c. cond ((r == 0) || (c == 0)) [] (each r (lines_of_row style aligns h es) ++ border_line style aligns h es r)) alike.rows alike.columns
 
-pub drawn-alike : (style : Style) (aligns : List Alignment) (g h : Grid (List ℕ)) (m : SpanMap) → AreSpanSizes m → AreSeenAlike g h (fitting g.rows g.columns (entries m)) → drawn_with style aligns g m ≡ drawn_with style aligns h m
+pub drawn-alike : (style : Style) (aligns : List Alignment) (g h : Grid (List ℕ)) (m : SpanMap) → AreSpanSizes m → AreSeenAlike g h (fitting g.rows g.columns (rectangles m)) → drawn_with style aligns g m ≡ drawn_with style aligns h m
 unfolding drawn_with
 drawn-alike style aligns g h m sized alike =
-    ap (λ lines. encode_utf8_all (with_newlines lines)) (picture-alike style aligns g h (fitting g.rows g.columns (entries m)) (kept-well m g.rows g.columns sized) alike)
-    ∙ ap₂ (λ r c. picture_bytes style aligns h (fitting r c (entries m))) alike.rows alike.columns
+    ap (λ lines. encode_utf8_all (with_newlines lines)) (picture-alike style aligns g h (fitting g.rows g.columns (rectangles m)) (kept-well m g.rows g.columns sized) alike)
+    ∙ ap₂ (λ r c. picture_bytes style aligns h (fitting r c (rectangles m))) alike.rows alike.columns

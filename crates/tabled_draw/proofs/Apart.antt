@@ -1,6 +1,6 @@
 -- Rows of owners of which each begins at its own place.
 use Rattle.std.proofs.Common.{le-ltb}
-use Rattle.tabled_draw.proofs.Common.{AreUnmerged, BeginHere, IsOwnerRow, None, Option, List, Position, Rectangle, Some, SpanMap, ap, ap₂, arith, begins_at, cases_eq, cases_lt, differ, entries, false, false≢true, get_or, inl, inr, lt-ltb, nat_lt, nat_tests, not, place, refl, same_place, same_place-true, subst, sym, true, ℕ, ◌+◌, ◌-◌, ◌<◌, ◌∙◌, ◌≡◌, ◌≢◌, ◌≤◌, ◌⊎◌}
+use Rattle.tabled_draw.proofs.Common.{AreUnmerged, BeginHere, IsOwnerRow, None, Option, List, Position, Rectangle, Some, SpanMap, ap, ap₂, arith, begins_at, cases_eq, cases_lt, differ, rectangles, false, false≢true, get_or, inl, inr, lt-ltb, nat_lt, nat_tests, not, place, refl, same_place, same_place-true, subst, sym, true, ℕ, ◌+◌, ◌-◌, ◌<◌, ◌∙◌, ◌≡◌, ◌≢◌, ◌≤◌, ◌⊎◌}
 use Rattle.tabled_draw.proofs.Arms.{same-arms}
 use Rattle.tabled_draw.proofs.Owned.{owner-left, owner-right}
 
@@ -8,7 +8,7 @@ use Rattle.tabled_draw.proofs.Owned.{owner-left, owner-right}
 differ-apart : (a b : Option Rectangle) (p q : Position) → begins_at a p ≡ true → begins_at b q ≡ true → same_place p q ≡ false → differ a b ≡ true
 differ-apart None b p q first second other = absurd (false≢true first)
 differ-apart (Some a) None p q first second other = refl
-differ-apart (Some a) (Some b) p q first second other = ap not (ap₂ same_place (same_place-true a.0 p first) (same_place-true b.0 q second) ∙ other)
+differ-apart (Some a) (Some b) p q first second other = ap not (ap₂ same_place (same_place-true a.first p first) (same_place-true b.first q second) ∙ other)
 
 differ-after : (a b : Option Rectangle) (p : Position) → begins_at a p ≡ true → b ≡ None → differ a b ≡ true
 differ-after None b p begins none = absurd (false≢true begins)
@@ -26,10 +26,10 @@ other-row h i j less = grind (arith, nat_tests)
 
 module _ (rows columns : ℕ) (m : SpanMap) (i : ℕ) (row : List (Option Rectangle)) (is : IsOwnerRow rows columns m (i + 1) row) (here : BeginHere i row) where
   pub outer-left : get_or row 0 None ≡ None
-  outer-left = is.each 0 (omega arith) ∙ owner-left rows columns (entries m) (i + 1)
+  outer-left = is.each 0 (omega arith) ∙ owner-left rows columns (rectangles m) (i + 1)
 
   pub outer-right : (j : ℕ) → j ≡ columns → get_or row (j + 1) None ≡ None
-  outer-right j last = is.each (j + 1) (omega (arith, last)) ∙ owner-right rows columns (entries m) (i + 1) (j + 1) (omega (arith, last))
+  outer-right j last = is.each (j + 1) (omega (arith, last)) ∙ owner-right rows columns (rectangles m) (i + 1) (j + 1) (omega (arith, last))
 
   pub begins-here : (j : ℕ) → j < columns → begins_at (get_or row (j + 1) None) (place i j) ≡ true
   begins-here j less = here j (omega (arith, less, is.long))

@@ -6,7 +6,7 @@ pub differ-comm : (a b : Option Rectangle) → differ a b ≡ differ b a
 differ-comm None None = refl
 differ-comm None (Some q) = refl
 differ-comm (Some p) None = refl
-differ-comm (Some p) (Some q) = ap not (same-comm p.0 q.0 (cases_Bool (same_place p.0 q.0)) (cases_Bool (same_place q.0 p.0)))
+differ-comm (Some p) (Some q) = ap not (same-comm p.first q.first (cases_Bool (same_place p.first q.first)) (cases_Bool (same_place q.first p.first)))
   where
     same-comm : (x y : Position) → (same_place x y ≡ true) ⊎ (same_place x y ≡ false) → (same_place y x ≡ true) ⊎ (same_place y x ≡ false) → same_place x y ≡ same_place y x
     same-comm x y (inl t) (inl u) = t ∙ sym u
@@ -19,7 +19,7 @@ differ-past None None c e f = f
 differ-past None (Some q) c e f = absurd (false≢true (sym e))
 differ-past (Some p) None c e f = absurd (false≢true (sym e))
 differ-past (Some p) (Some q) None e f = absurd (false≢true (sym f))
-differ-past (Some p) (Some q) (Some r) e f = ap (λ x. not (same_place x r.0)) (same_place-true p.0 q.0 (not-false _ e)) ∙ f
+differ-past (Some p) (Some q) (Some r) e f = ap (λ x. not (same_place x r.first)) (same_place-true p.first q.first (not-false _ e)) ∙ f
   where
     not-false : (b : Bool) → not b ≡ false → b ≡ true
     not-false true h = refl
@@ -58,7 +58,7 @@ none-alone a b c d = alone-not (arms a b c d)
 
 pub differ-self : (a : Option Rectangle) → differ a a ≡ false
 differ-self None = refl
-differ-self (Some p) = ap not (same_place-self p.0)
+differ-self (Some p) = ap not (same_place-self p.first)
 
 -- where there is no arm, no two places differ that lie beside each other
 pub none-parts : (x : Arms) → are_none x ≡ true → (x.up ≡ false) × (x.right ≡ false) × (x.down ≡ false) × (x.left ≡ false)

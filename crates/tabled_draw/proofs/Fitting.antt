@@ -1,36 +1,36 @@
 -- Merged cells that fit a table, and those that are kept of any.
-use Rattle.tabled_draw.proofs.Common.{◌∙◌, ◌≡◌, Alignment, AreSpanSizes, Fits, Grid, HoldsOfPictures, List, Rectangle, SpanMap, Style, ap, ap₂, entries, entries-from_sorted, fitting, keep_fitting, picture_bytes, position_cmp, subst, sym, ℕ}
+use Rattle.tabled_draw.proofs.Common.{◌∙◌, ◌≡◌, Alignment, AreSpanSizes, Fits, Grid, HoldsOfPictures, List, Rectangle, SpanMap, Style, ap, ap₂, rectangles, rectangles-map_of, fitting, keep_fitting, picture_bytes, subst, sym, ℕ}
 use Rattle.tabled_draw.proofs.Owned.{LieWell, fits-well}
 use Rattle.tabled_draw.specs.Picture.{drawn_with}
 use Rattle.tabled_grid.proofs.Fitting.{anchors-fitting, anchors-of, keep_fitting-all, keep_fitting-fits}
 use Rattle.tabled_grid.proofs.SortedAnchors.{anchors-of}
 
 -- the merged cells that are kept are those that fit
-pub kept-entries : (m : SpanMap) (rows columns : ℕ) → AreSpanSizes m → entries (keep_fitting rows columns m) ≡ fitting rows columns (entries m)
-kept-entries m rows columns sizes = entries-from_sorted position_cmp (fitting rows columns (entries m)) (anchors-fitting rows columns (entries m) (anchors-of m sizes)).sorted
+pub kept-rectangles : (m : SpanMap) (rows columns : ℕ) → AreSpanSizes m → rectangles (keep_fitting rows columns m) ≡ fitting rows columns (rectangles m)
+kept-rectangles m rows columns sizes = rectangles-map_of (fitting rows columns (rectangles m)) (anchors-fitting rows columns (rectangles m) (anchors-of m sizes)).sorted
 
-pub kept-well : (m : SpanMap) (rows columns : ℕ) → AreSpanSizes m → LieWell rows columns (fitting rows columns (entries m))
-kept-well m rows columns sizes = subst (λ (es : List Rectangle). LieWell rows columns es) (kept-entries m rows columns sizes) (fits-well (keep_fitting rows columns m) rows columns (keep_fitting-fits rows columns m sizes))
+pub kept-well : (m : SpanMap) (rows columns : ℕ) → AreSpanSizes m → LieWell rows columns (fitting rows columns (rectangles m))
+kept-well m rows columns sizes = subst (λ (es : List Rectangle). LieWell rows columns es) (kept-rectangles m rows columns sizes) (fits-well (keep_fitting rows columns m) rows columns (keep_fitting-fits rows columns m sizes))
 
 -- what holds where merged cells of a list lie well
 pub holds : (Says : Style → List Alignment → Grid (List ℕ) → List Rectangle → Type 0) → ((style : Style) (aligns : List Alignment) (g : Grid (List ℕ)) (es : List Rectangle) → LieWell g.rows g.columns es → Says style aligns g es) → HoldsOfPictures Says
 holds Says each = record {
-  where_all_fit = λ style aligns g m fits. each style aligns g (entries m) (fits-well m g.rows g.columns fits);
-  of_drawn = λ style aligns g m sizes. each style aligns g (fitting g.rows g.columns (entries m)) (kept-well m g.rows g.columns sizes);
+  where_all_fit = λ style aligns g m fits. each style aligns g (rectangles m) (fits-well m g.rows g.columns fits);
+  of_drawn = λ style aligns g m sizes. each style aligns g (fitting g.rows g.columns (rectangles m)) (kept-well m g.rows g.columns sizes);
 }
 
 -- ---- what is drawn
 
-fitting-all : (m : SpanMap) (rows columns : ℕ) → Fits m rows columns → fitting rows columns (entries m) ≡ entries m
-fitting-all m rows columns fits = sym (kept-entries m rows columns fits.sizes) ∙ ap entries (keep_fitting-all rows columns m fits)
+fitting-all : (m : SpanMap) (rows columns : ℕ) → Fits m rows columns → fitting rows columns (rectangles m) ≡ rectangles m
+fitting-all m rows columns fits = sym (kept-rectangles m rows columns fits.sizes) ∙ ap rectangles (keep_fitting-all rows columns m fits)
 
-pub drawn-all : (style : Style) (aligns : List Alignment) (g : Grid (List ℕ)) (m : SpanMap) → Fits m g.rows g.columns → drawn_with style aligns g m ≡ picture_bytes style aligns g (entries m)
+pub drawn-all : (style : Style) (aligns : List Alignment) (g : Grid (List ℕ)) (m : SpanMap) → Fits m g.rows g.columns → drawn_with style aligns g m ≡ picture_bytes style aligns g (rectangles m)
 unfolding drawn_with
 drawn-all style aligns g m fits = ap (picture_bytes style aligns g) (fitting-all m g.rows g.columns fits)
 
 pub drawn-kept : (style : Style) (aligns : List Alignment) (g : Grid (List ℕ)) (m : SpanMap) → AreSpanSizes m → drawn_with style aligns g m ≡ drawn_with style aligns g (keep_fitting g.rows g.columns m)
 unfolding drawn_with
-drawn-kept style aligns g m sizes = ap (picture_bytes style aligns g) (sym (kept-entries m g.rows g.columns sizes) ∙ sym (fitting-all (keep_fitting g.rows g.columns m) g.rows g.columns (keep_fitting-fits g.rows g.columns m sizes)))
+drawn-kept style aligns g m sizes = ap (picture_bytes style aligns g) (sym (kept-rectangles m g.rows g.columns sizes) ∙ sym (fitting-all (keep_fitting g.rows g.columns m) g.rows g.columns (keep_fitting-fits g.rows g.columns m sizes)))
 
 -- ---- tables that are laid out
 
@@ -39,6 +39,6 @@ module _ (g : Grid (List ℕ)) (m kept : SpanMap) (rows columns : ℕ) (is_rows 
   fits-of = rw (is, is_rows, is_columns) (keep_fitting-fits g.rows g.columns m valid)
 
   -- the bytes are those of the merged cells that fit
-  pub bytes-drawn : (style : Style) (aligns : List Alignment) → picture_bytes style aligns g (entries kept) ≡ drawn_with style aligns g m
+  pub bytes-drawn : (style : Style) (aligns : List Alignment) → picture_bytes style aligns g (rectangles kept) ≡ drawn_with style aligns g m
   unfolding drawn_with
-  bytes-drawn style aligns = ap (λ k. picture_bytes style aligns g (entries k)) (is ∙ ap₂ (λ r c. keep_fitting r c m) is_rows is_columns) ∙ ap (picture_bytes style aligns g) (kept-entries m g.rows g.columns valid)
+  bytes-drawn style aligns = ap (λ k. picture_bytes style aligns g (rectangles k)) (is ∙ ap₂ (λ r c. keep_fitting r c m) is_rows is_columns) ∙ ap (picture_bytes style aligns g) (kept-rectangles m g.rows g.columns valid)

@@ -77,16 +77,16 @@ pub record Framed (row : List ℕ) (columns before behind : ℕ) (text : List �
 
 module _ (style : Style) (aligns : List Alignment) (g : Grid (List ℕ)) (es : List Rectangle) (fine : IsFine style) (well : LieWell g.rows g.columns es) where
   -- what an owner shows is as wide as its room, with a blank at both sides
-  shows-wide : (n i j : ℕ) (o : Rectangle) → owner g.rows g.columns es i j ≡ Some o → text_width (shows style aligns g es n o) ≡ room Columns (border Columns style g) (widths style g es) o.0.col o.1.width + 2
+  shows-wide : (n i j : ℕ) (o : Rectangle) → owner g.rows g.columns es i j ≡ Some o → text_width (shows style aligns g es n o) ≡ room Columns (border Columns style g) (widths style g es) o.first.col o.size.width + 2
   shows-wide n i j o e =
       let s = owner-some g.rows g.columns es i j o e in
-      let lines = lines_shown (text_of_cell g o.0) in
-      let k = n - top style g es o.0.row - border Rows style g o.0.row in
+      let lines = lines_shown (text_of_cell g o.first) in
+      let k = n - top style g es o.first.row - border Rows style g o.first.row in
       let text = get_or lines k [] in
-      let wide = room Columns (border Columns style g) (widths style g es) o.0.col o.1.width in
-      let enough : widest (text_of_cell g o.0) ≤ wide = rw s.is (room-enough Columns style g es well (place s.row s.col) s.below s.right) in
-      let within : text_width text ≤ widest (text_of_cell g o.0) = line-least lines 0 k in
-      aligned-wide (alignment_in aligns o.0.col) wide text (omega arith)
+      let wide = room Columns (border Columns style g) (widths style g es) o.first.col o.size.width in
+      let enough : widest (text_of_cell g o.first) ≤ wide = rw s.is (room-enough Columns style g es well (place s.row s.col) s.below s.right) in
+      let within : text_width text ≤ widest (text_of_cell g o.first) = line-least lines 0 k in
+      aligned-wide (alignment_in aligns o.first.col) wide text (omega arith)
 
   module _ (n u d : ℕ) (line : IsLineOf g.rows u d) where
     abbrev up : ℕ → Option Rectangle
@@ -184,12 +184,12 @@ module _ (style : Style) (aligns : List Alignment) (g : Grid (List ℕ)) (es : L
     column-plain j = by (differ (up (j + 1)) (down (j + 1)))
       where
         shown : (b : Bool) (o : Rectangle) → IsPlain (cond b (shows style aligns g es n o) [])
-        shown true o = aligned-plain (alignment_in aligns o.0.col) (room Columns (border Columns style g) (widths style g es) o.0.col o.1.width) (get_or (lines_shown (text_of_cell g o.0)) (n - top style g es o.0.row - border Rows style g o.0.row) [])
+        shown true o = aligned-plain (alignment_in aligns o.first.col) (room Columns (border Columns style g) (widths style g es) o.first.col o.size.width) (get_or (lines_shown (text_of_cell g o.first)) (n - top style g es o.first.row - border Rows style g o.first.row) [])
         shown false o = plain-nil
 
         inside : (p : Option Rectangle) → IsPlain (shows_in style aligns g es n j p)
         inside None = plain-nil
-        inside (Some o) = shown (eqb o.0.col j) o
+        inside (Some o) = shown (eqb o.first.col j) o
 
         by : (b : Bool) → IsPlain (cond b (replicate (get_or (widths style g es) j 0 + 2) style.horizontal) (shows_in style aligns g es n j (up (j + 1))))
         by true = plain-marks (replicate (get_or (widths style g es) j 0 + 2) style.horizontal) (all-marks (get_or (widths style g es) j 0 + 2) style.horizontal (level-fine style fine))
@@ -202,33 +202,33 @@ module _ (style : Style) (aligns : List Alignment) (g : Grid (List ℕ)) (es : L
     column-apart : (j : ℕ) → differ (up (j + 1)) (down (j + 1)) ≡ true → column_at j ≡ replicate (get_or (widths style g es) j 0 + 2) style.horizontal
     column-apart j t = cond-true (differ (up (j + 1)) (down (j + 1))) (replicate (get_or (widths style g es) j 0 + 2) style.horizontal) (shows_in style aligns g es n j (up (j + 1))) t
 
-    column-one : (j : ℕ) (o : Rectangle) → up (j + 1) ≡ Some o → down (j + 1) ≡ Some o → column_at j ≡ cond (eqb o.0.col j) (shows style aligns g es n o) []
+    column-one : (j : ℕ) (o : Rectangle) → up (j + 1) ≡ Some o → down (j + 1) ≡ Some o → column_at j ≡ cond (eqb o.first.col j) (shows style aligns g es n o) []
     column-one j o e f = cond-false (differ (up (j + 1)) (down (j + 1))) (replicate (get_or (widths style g es) j 0 + 2) style.horizontal) (shows_in style aligns g es n j (up (j + 1))) (ap₂ differ e f ∙ differ-self (Some o)) ∙ ap (shows_in style aligns g es n j) e
 
-    column-shows : (j : ℕ) (o : Rectangle) → up (j + 1) ≡ Some o → down (j + 1) ≡ Some o → o.0.col ≡ j → column_at j ≡ shows style aligns g es n o
-    column-shows j o e f first = column-one j o e f ∙ cond-true _ (shows style aligns g es n o) [] (eq-eqb o.0.col j first)
+    column-shows : (j : ℕ) (o : Rectangle) → up (j + 1) ≡ Some o → down (j + 1) ≡ Some o → o.first.col ≡ j → column_at j ≡ shows style aligns g es n o
+    column-shows j o e f first = column-one j o e f ∙ cond-true _ (shows style aligns g es n o) [] (eq-eqb o.first.col j first)
 
-    column-none : (j : ℕ) (o : Rectangle) → up (j + 1) ≡ Some o → down (j + 1) ≡ Some o → o.0.col ≢ j → column_at j ≡ []
-    column-none j o e f later = column-one j o e f ∙ cond-false _ (shows style aligns g es n o) [] (ne_eqb o.0.col j later)
+    column-none : (j : ℕ) (o : Rectangle) → up (j + 1) ≡ Some o → down (j + 1) ≡ Some o → o.first.col ≢ j → column_at j ≡ []
+    column-none j o e f later = column-one j o e f ∙ cond-false _ (shows style aligns g es n o) [] (ne_eqb o.first.col j later)
 
     -- how far a line has come: to an edge, or to the right edge of what it shows
     data Reached (j w : ℕ) : Type 0 where
       edge : joint j ≡ false → w ≡ left style g es j → Reached j w
-      inside : (o : Rectangle) → up j ≡ Some o → down j ≡ Some o → up (j + 1) ≡ Some o → down (j + 1) ≡ Some o → w ≡ left style g es (o.0.col + o.1.width) → Reached j w
+      inside : (o : Rectangle) → up j ≡ Some o → down j ≡ Some o → up (j + 1) ≡ Some o → down (j + 1) ≡ Some o → w ≡ left style g es (o.first.col + o.size.width) → Reached j w
 
     -- past a column that one owner has above and below
-    past : (j w : ℕ) (o : Rectangle) → up (j + 1) ≡ Some o → down (j + 1) ≡ Some o → w ≡ left style g es (o.0.col + o.1.width) → Reached (j + 1) w
-    past j w o e f is = by (owner-owns g.rows g.columns es well u (j + 1) o e) (owner-owns g.rows g.columns es well d (j + 1) o f) (cases_lt (j + 1) (o.0.col + o.1.width))
+    past : (j w : ℕ) (o : Rectangle) → up (j + 1) ≡ Some o → down (j + 1) ≡ Some o → w ≡ left style g es (o.first.col + o.size.width) → Reached (j + 1) w
+    past j w o e f is = by (owner-owns g.rows g.columns es well u (j + 1) o e) (owner-owns g.rows g.columns es well d (j + 1) o f) (cases_lt (j + 1) (o.first.col + o.size.width))
       where
-        ends : o.0.col + o.1.width ≡ j + 1 → j + 1 ≤ g.columns → joint (j + 1) ≡ false
+        ends : o.first.col + o.size.width ≡ j + 1 → j + 1 ≤ g.columns → joint (j + 1) ≡ false
         ends last within = not-joint (j + 1) within (omega (arith, within)) (λ p at next at' next'. (
             let far = owner-owns g.rows g.columns es well u (j + 1 + 1) o (next ∙ sym at ∙ e) in
             omega (arith, far.right)))
 
-        by : Owns g.rows g.columns es u (j + 1) o → Owns g.rows g.columns es d (j + 1) o → (j + 1 < o.0.col + o.1.width) ⊎ (o.0.col + o.1.width ≤ j + 1) → Reached (j + 1) w
+        by : Owns g.rows g.columns es u (j + 1) o → Owns g.rows g.columns es d (j + 1) o → (j + 1 < o.first.col + o.size.width) ⊎ (o.first.col + o.size.width ≤ j + 1) → Reached (j + 1) w
         by a b (inl more) = inside o e f (a.all u (j + 1 + 1) a.top a.bottom (omega (arith, a.left)) (omega arith)) (b.all d (j + 1 + 1) b.top b.bottom (omega (arith, b.left)) (omega arith)) is
         by a b (inr last) =
-            let same : o.0.col + o.1.width ≡ j + 1 = omega (arith, a.right) in
+            let same : o.first.col + o.size.width ≡ j + 1 = omega (arith, a.right) in
             edge (ends same (omega (arith, a.lies.right, same))) (is ∙ ap (left style g es) same)
 
     columns-part : (j x y : ℕ) → text_width (edge_at j) ≡ x → text_width (column_at j) ≡ y → text_width (part j) ≡ x + y
@@ -251,19 +251,19 @@ module _ (style : Style) (aligns : List Alignment) (g : Grid (List ℕ)) (es : L
             edge (not-joint (j + 1) (omega (arith, less)) (omega (arith, less)) (λ o e e' f f'. false≢true (sym (ap₂ differ e f ∙ differ-self (Some o)) ∙ two))) (omega (arith, wide, to, is))
         by (inr one) =
             let both = owner-both g.rows g.columns es well u (j + 1) d (j + 1) one (some-one (j + 1) (omega arith) (omega (arith, less))) in
-            at both.0 both.1 both.2 (owner-owns g.rows g.columns es well u (j + 1) both.0 both.1) (owner-owns g.rows g.columns es well d (j + 1) both.0 both.2) (cases_lt both.0.0.col j)
+            at both.0 both.1 both.2 (owner-owns g.rows g.columns es well u (j + 1) both.0 both.1) (owner-owns g.rows g.columns es well d (j + 1) both.0 both.2) (cases_lt both.0.first.col j)
           where
-            at : (o : Rectangle) → up (j + 1) ≡ Some o → down (j + 1) ≡ Some o → Owns g.rows g.columns es u (j + 1) o → Owns g.rows g.columns es d (j + 1) o → (o.0.col < j) ⊎ (j ≤ o.0.col) → Reached (j + 1) (w + text_width (part j))
+            at : (o : Rectangle) → up (j + 1) ≡ Some o → down (j + 1) ≡ Some o → Owns g.rows g.columns es u (j + 1) o → Owns g.rows g.columns es d (j + 1) o → (o.first.col < j) ⊎ (j ≤ o.first.col) → Reached (j + 1) (w + text_width (part j))
             at o e f a b (inl before) =
                 let x = a.all u j a.top a.bottom before (omega (arith, a.right)) in
                 let y = b.all d j b.top b.bottom before (omega (arith, b.right)) in
                 absurd (false≢true (sym apart ∙ joint-from j o x y e f))
             at o e f a b (inr here) =
-                let col : o.0.col ≡ j = omega (arith, a.left) in
-                let wide : text_width (part j) ≡ border Columns style g j + (room Columns (border Columns style g) (widths style g es) o.0.col o.1.width + 2) = columns-part j (border Columns style g j) _ first (ap text_width (column-shows j o e f col) ∙ shows-wide n u (j + 1) o e) in
-                let to : left style g es (o.0.col + o.1.width) ≡ left style g es o.0.col + (border Columns style g o.0.col + room Columns (border Columns style g) (widths style g es) o.0.col o.1.width + 2) = room-end Columns (border Columns style g) (widths style g es) o.0.col o.1.width a.lies.wide in
-                let same : left style g es o.0.col ≡ left style g es j = ap (left style g es) col in
-                let line : border Columns style g o.0.col ≡ border Columns style g j = ap (border Columns style g) col in
+                let col : o.first.col ≡ j = omega (arith, a.left) in
+                let wide : text_width (part j) ≡ border Columns style g j + (room Columns (border Columns style g) (widths style g es) o.first.col o.size.width + 2) = columns-part j (border Columns style g j) _ first (ap text_width (column-shows j o e f col) ∙ shows-wide n u (j + 1) o e) in
+                let to : left style g es (o.first.col + o.size.width) ≡ left style g es o.first.col + (border Columns style g o.first.col + room Columns (border Columns style g) (widths style g es) o.first.col o.size.width + 2) = room-end Columns (border Columns style g) (widths style g es) o.first.col o.size.width a.lies.wide in
+                let same : left style g es o.first.col ≡ left style g es j = ap (left style g es) col in
+                let line : border Columns style g o.first.col ≡ border Columns style g j = ap (border Columns style g) col in
                 past j (w + text_width (part j)) o e f (omega (arith, wide, to, is, same, line))
 
     module _ (wide : 0 < g.columns) where
@@ -338,11 +338,11 @@ module _ (style : Style) (aligns : List Alignment) (g : Grid (List ℕ)) (es : L
           subst (StandsIn (picture_line style aligns g es n u d) (left style g es j + border Columns style g j)) (is ∙ ap (λ k. replicate k style.horizontal) many) stands
 
       -- what a cell shows stands between the edges at its left and at its right
-      pub cell-framed : (j : ℕ) (o : Rectangle) → j < g.columns → o.0.col ≡ j → up (j + 1) ≡ Some o → down (j + 1) ≡ Some o → Framed (picture_line style aligns g es n u d) (left style g es j) (border Columns style g j) (border Columns style g (j + o.1.width)) (shows style aligns g es n o)
+      pub cell-framed : (j : ℕ) (o : Rectangle) → j < g.columns → o.first.col ≡ j → up (j + 1) ≡ Some o → down (j + 1) ≡ Some o → Framed (picture_line style aligns g es n u d) (left style g es j) (border Columns style g j) (border Columns style g (j + o.size.width)) (shows style aligns g es n o)
       cell-framed j o less first e f = by (cases_lt end g.columns)
         where
           end : ℕ
-          end = j + o.1.width
+          end = j + o.size.width
 
           a : Owns g.rows g.columns es u (j + 1) o
           a = owner-owns g.rows g.columns es well u (j + 1) o e
@@ -350,23 +350,23 @@ module _ (style : Style) (aligns : List Alignment) (g : Grid (List ℕ)) (es : L
           b : Owns g.rows g.columns es d (j + 1) o
           b = owner-owns g.rows g.columns es well d (j + 1) o f
 
-          high : j + o.1.width ≤ g.columns
+          high : j + o.size.width ≤ g.columns
           high = omega (arith, a.lies.right, first)
 
-          over : (k : ℕ) → j < k → k ≤ j + o.1.width → up k ≡ Some o
+          over : (k : ℕ) → j < k → k ≤ j + o.size.width → up k ≡ Some o
           over k low within = a.all u k a.top a.bottom (omega (arith, low, first)) (omega (arith, within, first))
 
-          under : (k : ℕ) → j < k → k ≤ j + o.1.width → down k ≡ Some o
+          under : (k : ℕ) → j < k → k ≤ j + o.size.width → down k ≡ Some o
           under k low within = b.all d k b.top b.bottom (omega (arith, low, first)) (omega (arith, within, first))
 
           begins : joint j ≡ false
           begins = not-joint j (omega (arith, less)) wide (λ p x x' y y'. (let far = owner-owns g.rows g.columns es well u j o (x ∙ sym x' ∙ e) in omega (arith, far.left, first)))
 
-          ends : joint (j + o.1.width) ≡ false
-          ends = not-joint (j + o.1.width) high wide (λ p x x' y y'. (let far = owner-owns g.rows g.columns es well u (j + o.1.width + 1) o (x' ∙ sym x ∙ over (j + o.1.width) (omega (arith, a.lies.wide)) (omega arith)) in omega (arith, far.right, first)))
+          ends : joint (j + o.size.width) ≡ false
+          ends = not-joint (j + o.size.width) high wide (λ p x x' y y'. (let far = owner-owns g.rows g.columns es well u (j + o.size.width + 1) o (x' ∙ sym x ∙ over (j + o.size.width) (omega (arith, a.lies.wide)) (omega arith)) in omega (arith, far.right, first)))
 
           -- in its other columns stands nothing
-          nothing : (k : ℕ) → k < o.1.width → each (j + 1 + k) part ≡ each (j + 1) part
+          nothing : (k : ℕ) → k < o.size.width → each (j + 1 + k) part ≡ each (j + 1) part
           nothing zero within = ap (λ i. each i part) (add-zero (j + 1))
           nothing (suc k) within =
               let i = j + 1 + k in
@@ -375,31 +375,31 @@ module _ (style : Style) (aligns : List Alignment) (g : Grid (List ℕ)) (es : L
               (column-none i o (over (i + 1) (omega arith) (omega (arith, within))) (under (i + 1) (omega arith) (omega (arith, within))) (λ same. omega (arith, same, first))) in
               ap (λ x. each x part) (let s : j + 1 + suc k ≡ i + 1 = omega arith in s) ∙ each-more part i ∙ ap (λ x. each i part ++ x) none ∙ append-nil (each i part) ∙ nothing k (omega (arith, within))
 
-          before_end : each (j + o.1.width) part ≡ each j part ++ (edge_at j ++ shows style aligns g es n o)
+          before_end : each (j + o.size.width) part ≡ each j part ++ (edge_at j ++ shows style aligns g es n o)
           before_end =
-              ap (λ x. each x part) (let s : j + o.1.width ≡ j + 1 + (o.1.width - 1) = omega (arith, a.lies.wide) in s) ∙ nothing (o.1.width - 1) (omega (arith, a.lies.wide))
+              ap (λ x. each x part) (let s : j + o.size.width ≡ j + 1 + (o.size.width - 1) = omega (arith, a.lies.wide) in s) ∙ nothing (o.size.width - 1) (omega (arith, a.lies.wide))
               ∙ each-more part j ∙ ap (λ x. each j part ++ (edge_at j ++ x)) (column-shows j o e f first)
 
-          framed : (after : List ℕ) → picture_line style aligns g es n u d ≡ each (j + o.1.width) part ++ (edge_at (j + o.1.width) ++ after) → Framed (picture_line style aligns g es n u d) (left style g es j) (border Columns style g j) (border Columns style g (j + o.1.width)) (shows style aligns g es n o)
+          framed : (after : List ℕ) → picture_line style aligns g es n u d ≡ each (j + o.size.width) part ++ (edge_at (j + o.size.width) ++ after) → Framed (picture_line style aligns g es n u d) (left style g es j) (border Columns style g j) (border Columns style g (j + o.size.width)) (shows style aligns g es n o)
           framed after is = record {
             first = edge_at j;
-            last = edge_at (j + o.1.width);
+            last = edge_at (j + o.size.width);
             first_long = ap length (edge-is j begins) ∙ length-replicate (border Columns style g j) (mark_at j);
-            last_long = ap length (edge-is (j + o.1.width) ends) ∙ length-replicate (border Columns style g (j + o.1.width)) (mark_at (j + o.1.width));
+            last_long = ap length (edge-is (j + o.size.width) ends) ∙ length-replicate (border Columns style g (j + o.size.width)) (mark_at (j + o.size.width));
             first_marks = subst (AllByRecursion IsFineMark) (sym (edge-is j begins)) (all-marks (border Columns style g j) (mark_at j) (mark-fine style fine (eqb u d) (meeting_at j)));
-            last_marks = subst (AllByRecursion IsFineMark) (sym (edge-is (j + o.1.width) ends)) (all-marks (border Columns style g (j + o.1.width)) (mark_at (j + o.1.width)) (mark-fine style fine (eqb u d) (meeting_at (j + o.1.width))));
+            last_marks = subst (AllByRecursion IsFineMark) (sym (edge-is (j + o.size.width) ends)) (all-marks (border Columns style g (j + o.size.width)) (mark_at (j + o.size.width)) (mark-fine style fine (eqb u d) (meeting_at (j + o.size.width))));
             stands = record {
               before = each j part;
               after = after;
-              is = is ∙ ap (λ x. x ++ (edge_at (j + o.1.width) ++ after)) before_end ∙ simp append_assoc;
+              is = is ∙ ap (λ x. x ++ (edge_at (j + o.size.width) ++ after)) before_end ∙ simp append_assoc;
               at = reached-edge j (omega (arith, less)) begins;
             };
           }
 
-          by : (end < g.columns) ⊎ (g.columns ≤ end) → Framed (picture_line style aligns g es n u d) (left style g es j) (border Columns style g j) (border Columns style g (j + o.1.width)) (shows style aligns g es n o)
+          by : (end < g.columns) ⊎ (g.columns ≤ end) → Framed (picture_line style aligns g es n u d) (left style g es j) (border Columns style g j) (border Columns style g (j + o.size.width)) (shows style aligns g es n o)
           by (inl within) =
-              let s = split-each part g.columns (j + o.1.width) within in
-              framed (column_at (j + o.1.width) ++ (s.rest ++ edge_at g.columns)) (ap (λ xs. xs ++ edge_at g.columns) s.is ∙ simp append_assoc)
+              let s = split-each part g.columns (j + o.size.width) within in
+              framed (column_at (j + o.size.width) ++ (s.rest ++ edge_at g.columns)) (ap (λ xs. xs ++ edge_at g.columns) s.is ∙ simp append_assoc)
           by (inr last) =
-              let same : g.columns ≡ j + o.1.width = omega (arith, high, last) in
-              framed [] (ap (λ k. each k part ++ edge_at k) same ∙ ap (λ xs. each (j + o.1.width) part ++ xs) (sym (append-nil (edge_at (j + o.1.width)))))
+              let same : g.columns ≡ j + o.size.width = omega (arith, high, last) in
+              framed [] (ap (λ k. each k part ++ edge_at k) same ∙ ap (λ xs. each (j + o.size.width) part ++ xs) (sym (append-nil (edge_at (j + o.size.width)))))

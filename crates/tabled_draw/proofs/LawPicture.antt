@@ -20,16 +20,16 @@ use Rattle.tabled_draw.specs.Borders.{are_one}
 use Rattle.tabled_grid.proofs.Geometry.{cases_place}
 
 -- what no other merged cell holds owns itself
-pub owner-self : (es : List Rectangle) (p : Position) → is_hidden_in es p ≡ false → (owner_in es p).0 ≡ p
+pub owner-self : (es : List Rectangle) (p : Position) → is_hidden_in es p ≡ false → (owner_in es p).first ≡ p
 owner-self es p seen = by (owned es p)
   where
-    by_place : Member (owner_in es p) es → holds (owner_in es p) p ≡ true → ((owner_in es p).0 ≡ p) ⊎ ((owner_in es p).0 ≢ p) → (owner_in es p).0 ≡ p
+    by_place : Member (owner_in es p) es → holds (owner_in es p) p ≡ true → ((owner_in es p).first ≡ p) ⊎ ((owner_in es p).first ≢ p) → (owner_in es p).first ≡ p
     by_place m t (inl same) = same
-    by_place m t (inr other) = absurd (false≢true (sym seen ∙ any-from (λ (e : Rectangle). holds e p && not (same_place e.0 p)) (owner_in es p) es m (and_from _ _ t (ap not (same_place-apart (owner_in es p).0 p other)))))
+    by_place m t (inr other) = absurd (false≢true (sym seen ∙ any-from (λ (e : Rectangle). holds e p && not (same_place e.first p)) (owner_in es p) es m (and_from _ _ t (ap not (same_place-apart (owner_in es p).first p other)))))
 
-    by : Owned es p (owner_in es p) → (owner_in es p).0 ≡ p
-    by (held m h) = by_place m (holds-from _ _ h) (cases_place (owner_in es p).0 p)
-    by (alone is _) = ap (λ (x : Rectangle). x.0) is
+    by : Owned es p (owner_in es p) → (owner_in es p).first ≡ p
+    by (held m h) = by_place m (holds-from _ _ h) (cases_place (owner_in es p).first p)
+    by (alone is _) = ap (λ (x : Rectangle). x.first) is
 
 -- a part of what stands, stands
 stands-part : (row : List ℕ) (columns : ℕ) (a b c : List ℕ) → IsPlain a → StandsIn row columns (a ++ (b ++ c)) → StandsIn row (columns + text_width a) b
@@ -198,26 +198,26 @@ module _ (style : Style) (aligns : List Alignment) (g : Grid (List ℕ)) (es : L
 
   module _ (p : Position) (it : IsSeen g es p) where
     abbrev wide : ℕ
-    wide = room Columns (border Columns style g) (widths style g es) p.col (owner_in es p).1.width
+    wide = room Columns (border Columns style g) (widths style g es) p.col (owner_in es p).size.width
 
-    self : (owner_in es p).0 ≡ p
+    self : (owner_in es p).first ≡ p
     self = owner-self es p it.seen
 
     lies : LiesIn g.rows g.columns (owner_in es p)
     lies = owner-lies g.rows g.columns es well p it.inside.row it.inside.col
 
-    row_is : (owner_in es p).0.row ≡ p.row
+    row_is : (owner_in es p).first.row ≡ p.row
     row_is = ap (λ (q : Position). q.row) self
 
-    col_is : (owner_in es p).0.col ≡ p.col
+    col_is : (owner_in es p).first.col ≡ p.col
     col_is = ap (λ (q : Position). q.col) self
 
-    owns : (r : ℕ) → p.row < r → r ≤ p.row + (owner_in es p).1.height → owner g.rows g.columns es r (p.col + 1) ≡ Some (owner_in es p)
+    owns : (r : ℕ) → p.row < r → r ≤ p.row + (owner_in es p).size.height → owner g.rows g.columns es r (p.col + 1) ≡ Some (owner_in es p)
     owns r above below = (owner-owns g.rows g.columns es well (p.row + 1) (p.col + 1) (owner_in es p) (owner-inside g.rows g.columns es p.row p.col it.inside.row it.inside.col)).all r (p.col + 1) (omega (arith, row_is)) (omega (arith, row_is)) (omega (arith, col_is)) (omega (arith, col_is, lies.wide))
 
     -- as many characters of borders stand before and behind it as there are
-    shows-framed : (n : ℕ) → inner_top style g es p ≤ n → n < top style g es (p.row + (owner_in es p).1.height) → StandsFramed (picture style aligns g es) n (left style g es p.col) (border Columns style g p.col) (border Columns style g (p.col + (owner_in es p).1.width)) (shows style aligns g es n (owner_in es p))
-    shows-framed n low high = by (locate style aligns g es p.row (owner_in es p).1.height n (omega (arith, row_is, lies.bottom)) low high)
+    shows-framed : (n : ℕ) → inner_top style g es p ≤ n → n < top style g es (p.row + (owner_in es p).size.height) → StandsFramed (picture style aligns g es) n (left style g es p.col) (border Columns style g p.col) (border Columns style g (p.col + (owner_in es p).size.width)) (shows style aligns g es n (owner_in es p))
+    shows-framed n low high = by (locate style aligns g es p.row (owner_in es p).size.height n (omega (arith, row_is, lies.bottom)) low high)
       where
         some : 0 < g.rows
         some = omega (arith, it.inside.row)
@@ -225,28 +225,28 @@ module _ (style : Style) (aligns : List Alignment) (g : Grid (List ℕ)) (es : L
         wide_some : 0 < g.columns
         wide_some = omega (arith, it.inside.col)
 
-        framed-at : (row : List ℕ) → IsLine style aligns g es n row → Framed row (left style g es p.col) (border Columns style g p.col) (border Columns style g (p.col + (owner_in es p).1.width)) (shows style aligns g es n (owner_in es p)) → StandsFramed (picture style aligns g es) n (left style g es p.col) (border Columns style g p.col) (border Columns style g (p.col + (owner_in es p).1.width)) (shows style aligns g es n (owner_in es p))
+        framed-at : (row : List ℕ) → IsLine style aligns g es n row → Framed row (left style g es p.col) (border Columns style g p.col) (border Columns style g (p.col + (owner_in es p).size.width)) (shows style aligns g es n (owner_in es p)) → StandsFramed (picture style aligns g es) n (left style g es p.col) (border Columns style g p.col) (border Columns style g (p.col + (owner_in es p).size.width)) (shows style aligns g es n (owner_in es p))
         framed-at row l f = record { first = f.first; last = f.last; first_long = f.first_long; last_long = f.last_long; first_marks = f.first_marks; last_marks = f.last_marks; stands = stands-at style aligns g es n (left style g es p.col) row (f.first ++ (shows style aligns g es n (owner_in es p) ++ f.last)) l f.stands }
 
-        by : Where style aligns g es p.row (owner_in es p).1.height n → StandsFramed (picture style aligns g es) n (left style g es p.col) (border Columns style g p.col) (border Columns style g (p.col + (owner_in es p).1.width)) (shows style aligns g es n (owner_in es p))
+        by : Where style aligns g es p.row (owner_in es p).size.height n → StandsFramed (picture style aligns g es) n (left style g es p.col) (border Columns style g p.col) (border Columns style g (p.col + (owner_in es p).size.width)) (shows style aligns g es n (owner_in es p))
         by (line r above below drawn is) =
-            let low : p.row + (owner_in es p).1.height ≤ g.rows = omega (arith, row_is, lies.bottom) in
+            let low : p.row + (owner_in es p).size.height ≤ g.rows = omega (arith, row_is, lies.bottom) in
             let l : IsLine style aligns g es n (picture_line style aligns g es n r (r + 1)) = subst (λ k. IsLine style aligns g es k (picture_line style aligns g es k r (r + 1))) is (line-above style aligns g es some wide_some r (omega (arith, low, below)) drawn) in
             framed-at (picture_line style aligns g es n r (r + 1)) l (cell-framed style aligns g es fine well n r (r + 1) (record { some = some; low = omega arith; high = omega (arith, low, below); next = inr refl }) wide_some p.col (owner_in es p) it.inside.col col_is (owns r above (omega (arith, below))) (owns (r + 1) (omega (arith, above)) (omega (arith, below))))
         by (text r above below x y) =
-            let low : p.row + (owner_in es p).1.height ≤ g.rows = omega (arith, row_is, lies.bottom) in
+            let low : p.row + (owner_in es p).size.height ≤ g.rows = omega (arith, row_is, lies.bottom) in
             framed-at (picture_line style aligns g es n (r + 1) (r + 1)) (line-in style aligns g es some wide_some r n (omega (arith, low, below)) x y) (cell-framed style aligns g es fine well n (r + 1) (r + 1) (record { some = some; low = omega arith; high = omega (arith, low, below); next = inl refl }) wide_some p.col (owner_in es p) it.inside.col col_is (owns (r + 1) (omega (arith, above)) (omega (arith, below))) (owns (r + 1) (omega (arith, above)) (omega (arith, below))))
 
     -- its room
     width-enough : (k : ℕ) → text_width (text_line g p k) ≤ wide
     width-enough k =
-        let enough : widest (text_of_cell g p) ≤ wide = subst (λ (q : Position). widest (text_of_cell g q) ≤ room Columns (border Columns style g) (widths style g es) q.col (owner_in es p).1.width) self (room-enough Columns style g es well p it.inside.row it.inside.col) in
+        let enough : widest (text_of_cell g p) ≤ wide = subst (λ (q : Position). widest (text_of_cell g q) ≤ room Columns (border Columns style g) (widths style g es) q.col (owner_in es p).size.width) self (room-enough Columns style g es well p it.inside.row it.inside.col) in
         let within : text_width (text_line g p k) ≤ widest (text_of_cell g p) = line-least (lines_shown (text_of_cell g p)) 0 k in
         omega arith
 
     width-inner : inner_width style g es p ≡ wide + 2
     width-inner =
-        let end : left style g es (p.col + (owner_in es p).1.width) ≡ left style g es p.col + (border Columns style g p.col + wide + 2) = room-end Columns (border Columns style g) (widths style g es) p.col (owner_in es p).1.width lies.wide in
+        let end : left style g es (p.col + (owner_in es p).size.width) ≡ left style g es p.col + (border Columns style g p.col + wide + 2) = room-end Columns (border Columns style g) (widths style g es) p.col (owner_in es p).size.width lies.wide in
         omega arith
 
     text-wide : (k : ℕ) → text_width (text_line g p k) + 2 ≤ inner_width style g es p
@@ -254,18 +254,18 @@ module _ (style : Style) (aligns : List Alignment) (g : Grid (List ℕ)) (es : L
 
     text-high : length (lines_shown (text_of_cell g p)) ≤ inner_height style g es p
     text-high =
-        let enough : length (lines_shown (text_of_cell g p)) ≤ room Rows (border Rows style g) (heights style g es) p.row (owner_in es p).1.height = subst (λ (q : Position). length (lines_shown (text_of_cell g q)) ≤ room Rows (border Rows style g) (heights style g es) q.row (owner_in es p).1.height) self (room-enough Rows style g es well p it.inside.row it.inside.col) in
-        let end : top style g es (p.row + (owner_in es p).1.height) ≡ top style g es p.row + (border Rows style g p.row + room Rows (border Rows style g) (heights style g es) p.row (owner_in es p).1.height + 0) = room-end Rows (border Rows style g) (heights style g es) p.row (owner_in es p).1.height lies.high in
+        let enough : length (lines_shown (text_of_cell g p)) ≤ room Rows (border Rows style g) (heights style g es) p.row (owner_in es p).size.height = subst (λ (q : Position). length (lines_shown (text_of_cell g q)) ≤ room Rows (border Rows style g) (heights style g es) q.row (owner_in es p).size.height) self (room-enough Rows style g es well p it.inside.row it.inside.col) in
+        let end : top style g es (p.row + (owner_in es p).size.height) ≡ top style g es p.row + (border Rows style g p.row + room Rows (border Rows style g) (heights style g es) p.row (owner_in es p).size.height + 0) = room-end Rows (border Rows style g) (heights style g es) p.row (owner_in es p).size.height lies.high in
         omega arith
 
     -- what it shows, in other words
     shows-is : (k : ℕ) → shows style aligns g es (inner_top style g es p + k) (owner_in es p) ≡ inner_line style aligns g es p k
     shows-is k =
-        ap (λ (q : Position). aligned (alignment_in aligns q.col) (room Columns (border Columns style g) (widths style g es) q.col (owner_in es p).1.width) (get_or (lines_shown (text_of_cell g q)) (inner_top style g es p + k - top style g es q.row - border Rows style g q.row) [])) self
+        ap (λ (q : Position). aligned (alignment_in aligns q.col) (room Columns (border Columns style g) (widths style g es) q.col (owner_in es p).size.width) (get_or (lines_shown (text_of_cell g q)) (inner_top style g es p + k - top style g es q.row - border Rows style g q.row) [])) self
         ∙ ap₂ (λ x i. aligned (alignment_in aligns p.col) x (text_line g p i)) (let e : wide ≡ inner_width style g es p - 2 = omega (arith, width-inner) in e) (let e : inner_top style g es p + k - top style g es p.row - border Rows style g p.row ≡ k = omega arith in e)
 
-    text-alone : (k : ℕ) → k < inner_height style g es p → StandsFramed (picture style aligns g es) (inner_top style g es p + k) (left style g es p.col) (border Columns style g p.col) (border Columns style g (p.col + (owner_in es p).1.width)) (inner_line style aligns g es p k)
-    text-alone k less = subst (λ t. StandsFramed (picture style aligns g es) (inner_top style g es p + k) (left style g es p.col) (border Columns style g p.col) (border Columns style g (p.col + (owner_in es p).1.width)) t) (shows-is k) (shows-framed (inner_top style g es p + k) (omega arith) (omega arith))
+    text-alone : (k : ℕ) → k < inner_height style g es p → StandsFramed (picture style aligns g es) (inner_top style g es p + k) (left style g es p.col) (border Columns style g p.col) (border Columns style g (p.col + (owner_in es p).size.width)) (inner_line style aligns g es p k)
+    text-alone k less = subst (λ t. StandsFramed (picture style aligns g es) (inner_top style g es p + k) (left style g es p.col) (border Columns style g p.col) (border Columns style g (p.col + (owner_in es p).size.width)) t) (shows-is k) (shows-framed (inner_top style g es p + k) (omega arith) (omega arith))
 
     text-whole : (k : ℕ) → k < length (lines_shown (text_of_cell g p)) → StandsAt (picture style aligns g es) (inner_top style g es p + k) (inner_left style g es p + 1 + indent_of style aligns g es p k) (text_line g p k)
     text-whole k less =
@@ -343,11 +343,11 @@ module _ (style : Style) (aligns : List Alignment) (g : Grid (List ℕ)) (es : L
       all-append IsNoControl (replicate (before + 1) 32) (shown ++ replicate (space - text_width shown - before + 1) 32) (all-repeated (before + 1) 32 blank-fine) (all-append IsNoControl shown (replicate (space - text_width shown - before + 1) 32) h (all-repeated (space - text_width shown - before + 1) 32 blank-fine))
 
   all-shows : (n : ℕ) (o : Rectangle) → AreNoControls (shows style aligns g es n o)
-  all-shows n o = all-aligned (alignment_in aligns o.0.col) (room Columns (border Columns style g) (widths style g es) o.0.col o.1.width) _ (line-fine (lines_shown (text_of_cell g o.0)) (n - top style g es o.0.row - border Rows style g o.0.row) (all-texts _))
+  all-shows n o = all-aligned (alignment_in aligns o.first.col) (room Columns (border Columns style g) (widths style g es) o.first.col o.size.width) _ (line-fine (lines_shown (text_of_cell g o.first)) (n - top style g es o.first.row - border Rows style g o.first.row) (all-texts _))
 
   all-shows_in : (n j : ℕ) (a : Option Rectangle) → AreNoControls (shows_in style aligns g es n j a)
   all-shows_in n j None = tt
-  all-shows_in n j (Some o) = by (o.0.col == j)
+  all-shows_in n j (Some o) = by (o.first.col == j)
     where
       by : (b : Bool) → AreNoControls (cond b (shows style aligns g es n o) [])
       by true = all-shows n o
@@ -396,41 +396,41 @@ amid-from k at n low high = and_from _ _ (lt-ltb at k low) (lt-ltb k (at + n) hi
 
 module _ (style : Style) (aligns : List Alignment) (g : Grid (List ℕ)) (es : List Rectangle) (well : LieWell g.rows g.columns es) (some : IsInside g (place 0 0)) where
   -- an owner is a merged cell, or takes one place
-  merged : (i j : ℕ) (o : Rectangle) → owner g.rows g.columns es i j ≡ Some o → Member o es ⊎ (o.1 ≡ sized 1 1)
+  merged : (i j : ℕ) (o : Rectangle) → owner g.rows g.columns es i j ≡ Some o → Member o es ⊎ (o.size ≡ sized 1 1)
   merged i j o e = by (owned es (place s.row s.col)) s.is
     where
       s : Inside g.rows g.columns es i j o
       s = owner-some g.rows g.columns es i j o e
 
-      by : Owned es (place s.row s.col) (owner_in es (place s.row s.col)) → o ≡ owner_in es (place s.row s.col) → Member o es ⊎ (o.1 ≡ sized 1 1)
+      by : Owned es (place s.row s.col) (owner_in es (place s.row s.col)) → o ≡ owner_in es (place s.row s.col) → Member o es ⊎ (o.size ≡ sized 1 1)
       by (held m h) is = inl (subst (λ (x : Rectangle). Member x es) (sym is) m)
-      by (alone single never) is = inr (ap (λ (x : Rectangle). x.1) (is ∙ single))
+      by (alone single never) is = inr (ap (λ (x : Rectangle). x.size) (is ∙ single))
 
   -- no owner has two places, unless a test says so of a merged cell
   crossed : (test : Rectangle → Bool) (i j k l : ℕ) → list_any test es ≡ false → i + j < k + l → ((o : Rectangle) → Owns g.rows g.columns es i j o → Owns g.rows g.columns es k l o → test o ≡ true)
       → (o : Rectangle) → owner g.rows g.columns es i j ≡ Some o → owner g.rows g.columns es k l ≡ Some o → ⊥
   crossed test i j k l clear apart meets o e f = by (merged i j o e) (owner-owns g.rows g.columns es well i j o e) (owner-owns g.rows g.columns es well k l o f)
     where
-      by : Member o es ⊎ (o.1 ≡ sized 1 1) → Owns g.rows g.columns es i j o → Owns g.rows g.columns es k l o → ⊥
+      by : Member o es ⊎ (o.size ≡ sized 1 1) → Owns g.rows g.columns es i j o → Owns g.rows g.columns es k l o → ⊥
       by (inl m) a b = false≢true (sym clear ∙ any-from test o es m (meets o a b))
-      by (inr one) a b = let h : o.1.height ≡ 1 = ap (λ (x : Size). x.height) one in let w : o.1.width ≡ 1 = ap (λ (x : Size). x.width) one in omega arith
+      by (inr one) a b = let h : o.size.height ≡ 1 = ap (λ (x : Size). x.height) one in let w : o.size.width ≡ 1 = ap (λ (x : Size). x.width) one in omega arith
 
   abbrev at : ℕ → ℕ → Option Rectangle
   at i j = owner g.rows g.columns es i j
 
   -- where no merged cell lies at both sides of an edge, no owner does
   no-beside : (i j : ℕ) → is_joined_beside es i j ≡ false → (o : Rectangle) → at (i + 1) j ≡ Some o → at (i + 1) (j + 1) ≡ Some o → ⊥
-  no-beside i j clear = crossed (λ (e : Rectangle). is_in_range i e.0.row e.1.height && is_amid j e.0.col e.1.width) (i + 1) j (i + 1) (j + 1) clear (omega arith)
-      (λ o a b. and_from _ _ (among-from i o.0.row o.1.height (omega (arith, a.top)) (omega (arith, a.bottom))) (amid-from j o.0.col o.1.width a.left (omega (arith, b.right))))
+  no-beside i j clear = crossed (λ (e : Rectangle). is_in_range i e.first.row e.size.height && is_amid j e.first.col e.size.width) (i + 1) j (i + 1) (j + 1) clear (omega arith)
+      (λ o a b. and_from _ _ (among-from i o.first.row o.size.height (omega (arith, a.top)) (omega (arith, a.bottom))) (amid-from j o.first.col o.size.width a.left (omega (arith, b.right))))
 
   no-above : (i j : ℕ) → is_joined_above es i j ≡ false → (o : Rectangle) → at i (j + 1) ≡ Some o → at (i + 1) (j + 1) ≡ Some o → ⊥
-  no-above i j clear = crossed (λ (e : Rectangle). is_amid i e.0.row e.1.height && is_in_range j e.0.col e.1.width) i (j + 1) (i + 1) (j + 1) clear (omega arith)
-      (λ o a b. and_from _ _ (amid-from i o.0.row o.1.height a.top (omega (arith, b.bottom))) (among-from j o.0.col o.1.width (omega (arith, a.left)) (omega (arith, a.right))))
+  no-above i j clear = crossed (λ (e : Rectangle). is_amid i e.first.row e.size.height && is_in_range j e.first.col e.size.width) i (j + 1) (i + 1) (j + 1) clear (omega arith)
+      (λ o a b. and_from _ _ (amid-from i o.first.row o.size.height a.top (omega (arith, b.bottom))) (among-from j o.first.col o.size.width (omega (arith, a.left)) (omega (arith, a.right))))
 
   -- ---- the arms of corners
 
   differ-one : (a b : Option Rectangle) (e : Rectangle) → a ≡ Some e → b ≡ Some e → differ a b ≡ false
-  differ-one a b e f h = ap₂ differ f h ∙ ap not (same_place-self e.0)
+  differ-one a b e f h = ap₂ differ f h ∙ ap not (same_place-self e.first)
 
   is-some : (a : Option Rectangle) (o : Rectangle) → a ≡ Some o → a ≡ None → ⊥
   is-some a o e n = none-some o (sym n ∙ e)
@@ -438,10 +438,10 @@ module _ (style : Style) (aligns : List Alignment) (g : Grid (List ℕ)) (es : L
   differ-beside : (r j : ℕ) → r < g.rows → j ≤ g.columns → differ (at (r + 1) j) (at (r + 1) (j + 1)) ≡ not (is_joined_beside es r j)
   differ-beside r j h k = by (cases_Bool (is_joined_beside es r j))
     where
-      joined : (e : Rectangle) → Member e es → (is_in_range r e.0.row e.1.height && is_amid j e.0.col e.1.width) ≡ true → differ (at (r + 1) j) (at (r + 1) (j + 1)) ≡ false
+      joined : (e : Rectangle) → Member e es → (is_in_range r e.first.row e.size.height && is_amid j e.first.col e.size.width) ≡ true → differ (at (r + 1) j) (at (r + 1) (j + 1)) ≡ false
       joined e m t =
-          let in_row : (e.0.row ≤ r) × (r < e.0.row + e.1.height) = in-range r e.0.row e.1.height (and_parts (is_in_range r e.0.row e.1.height) (is_amid j e.0.col e.1.width) t).0 in
-          let amid : (e.0.col < j) × (j < e.0.col + e.1.width) = in-amid j e.0.col e.1.width (and_parts (is_in_range r e.0.row e.1.height) (is_amid j e.0.col e.1.width) t).1 in
+          let in_row : (e.first.row ≤ r) × (r < e.first.row + e.size.height) = in-range r e.first.row e.size.height (and_parts (is_in_range r e.first.row e.size.height) (is_amid j e.first.col e.size.width) t).0 in
+          let amid : (e.first.col < j) × (j < e.first.col + e.size.width) = in-amid j e.first.col e.size.width (and_parts (is_in_range r e.first.row e.size.height) (is_amid j e.first.col e.size.width) t).1 in
           let lies : LiesIn g.rows g.columns e = well.lies e m in
           let up : j ≡ j - 1 + 1 = omega (arith, amid.0) in
           let first : at (r + 1) j ≡ Some e = ap (at (r + 1)) up ∙ owner-inside g.rows g.columns es r (j - 1) h (omega (arith, amid.0, k)) ∙ ap Some (member-owner g.rows g.columns es well e (place r (j - 1)) m (record { top = in_row.0; bottom = in_row.1; left = omega (arith, amid.0); right = omega (arith, amid.0, amid.1) })) in
@@ -456,16 +456,16 @@ module _ (style : Style) (aligns : List Alignment) (g : Grid (List ℕ)) (es : L
           within (inr end) = let up : j ≡ j - 1 + 1 = omega (arith, end, some.col) in is-some _ _ (ap (at (r + 1)) up ∙ owner-inside g.rows g.columns es r (j - 1) h (omega (arith, k, some.col, up))) none
 
       by : (is_joined_beside es r j ≡ true) ⊎ (is_joined_beside es r j ≡ false) → differ (at (r + 1) j) (at (r + 1) (j + 1)) ≡ not (is_joined_beside es r j)
-      by (inl t) = let one = any-member (λ (e : Rectangle). is_in_range r e.0.row e.1.height && is_amid j e.0.col e.1.width) es t in joined one.0 one.1 one.2 ∙ sym (ap not t)
+      by (inl t) = let one = any-member (λ (e : Rectangle). is_in_range r e.first.row e.size.height && is_amid j e.first.col e.size.width) es t in joined one.0 one.1 one.2 ∙ sym (ap not t)
       by (inr f) = true_from_ne_false _ (λ same. (let both = owner-both g.rows g.columns es well (r + 1) j (r + 1) (j + 1) same some_one in no-beside r j f both.0 both.1 both.2)) ∙ sym (ap not f)
 
   differ-above : (i c : ℕ) → i ≤ g.rows → c < g.columns → differ (at i (c + 1)) (at (i + 1) (c + 1)) ≡ not (is_joined_above es i c)
   differ-above i c h k = by (cases_Bool (is_joined_above es i c))
     where
-      joined : (e : Rectangle) → Member e es → (is_amid i e.0.row e.1.height && is_in_range c e.0.col e.1.width) ≡ true → differ (at i (c + 1)) (at (i + 1) (c + 1)) ≡ false
+      joined : (e : Rectangle) → Member e es → (is_amid i e.first.row e.size.height && is_in_range c e.first.col e.size.width) ≡ true → differ (at i (c + 1)) (at (i + 1) (c + 1)) ≡ false
       joined e m t =
-          let amid : (e.0.row < i) × (i < e.0.row + e.1.height) = in-amid i e.0.row e.1.height (and_parts (is_amid i e.0.row e.1.height) (is_in_range c e.0.col e.1.width) t).0 in
-          let in_col : (e.0.col ≤ c) × (c < e.0.col + e.1.width) = in-range c e.0.col e.1.width (and_parts (is_amid i e.0.row e.1.height) (is_in_range c e.0.col e.1.width) t).1 in
+          let amid : (e.first.row < i) × (i < e.first.row + e.size.height) = in-amid i e.first.row e.size.height (and_parts (is_amid i e.first.row e.size.height) (is_in_range c e.first.col e.size.width) t).0 in
+          let in_col : (e.first.col ≤ c) × (c < e.first.col + e.size.width) = in-range c e.first.col e.size.width (and_parts (is_amid i e.first.row e.size.height) (is_in_range c e.first.col e.size.width) t).1 in
           let lies : LiesIn g.rows g.columns e = well.lies e m in
           let up : i ≡ i - 1 + 1 = omega (arith, amid.0) in
           let first : at i (c + 1) ≡ Some e = ap (λ r. at r (c + 1)) up ∙ owner-inside g.rows g.columns es (i - 1) c (omega (arith, amid.0, h)) k ∙ ap Some (member-owner g.rows g.columns es well e (place (i - 1) c) m (record { top = omega (arith, amid.0); bottom = omega (arith, amid.0, amid.1); left = in_col.0; right = in_col.1 })) in
@@ -480,7 +480,7 @@ module _ (style : Style) (aligns : List Alignment) (g : Grid (List ℕ)) (es : L
           within (inr end) = let up : i ≡ i - 1 + 1 = omega (arith, end, some.row) in is-some _ _ (ap (λ r. at r (c + 1)) up ∙ owner-inside g.rows g.columns es (i - 1) c (omega (arith, h, some.row, up)) k) none
 
       by : (is_joined_above es i c ≡ true) ⊎ (is_joined_above es i c ≡ false) → differ (at i (c + 1)) (at (i + 1) (c + 1)) ≡ not (is_joined_above es i c)
-      by (inl t) = let one = any-member (λ (e : Rectangle). is_amid i e.0.row e.1.height && is_in_range c e.0.col e.1.width) es t in joined one.0 one.1 one.2 ∙ sym (ap not t)
+      by (inl t) = let one = any-member (λ (e : Rectangle). is_amid i e.first.row e.size.height && is_in_range c e.first.col e.size.width) es t in joined one.0 one.1 one.2 ∙ sym (ap not t)
       by (inr f) = true_from_ne_false _ (λ same. (let both = owner-both g.rows g.columns es well i (c + 1) (i + 1) (c + 1) same some_one in no-above i c f both.0 both.1 both.2)) ∙ sym (ap not f)
 
   -- outside the table no border lies between two places
@@ -544,8 +544,8 @@ module _ (style : Style) (aligns : List Alignment) (g : Grid (List ℕ)) (es : L
         (subst (λ c. StandsIn (picture_line style aligns g es (top style g es i) i (i + 1)) (left style g es j) (c ∷ []))
         (ap (λ b. mark style b (arms (at i j) (at i (j + 1)) (at (i + 1) j) (at (i + 1) (j + 1)))) (ne_eqb i (i + 1) (λ same. omega (arith, same))) ∙ ap (corner style) (arms-meet i j h k))
         (edge-stands style aligns g es fine well (top style g es i) i (i + 1) (line-between i h) some.col j k drawn'
-        (λ o e e' f f'. crossed (λ (e : Rectangle). is_amid i e.0.row e.1.height && is_amid j e.0.col e.1.width) i j (i + 1) (j + 1) clear (omega arith)
-        (λ o a b. and_from _ _ (amid-from i o.0.row o.1.height a.top (omega (arith, b.bottom))) (amid-from j o.0.col o.1.width a.left (omega (arith, b.right)))) o e f')))
+        (λ o e e' f f'. crossed (λ (e : Rectangle). is_amid i e.first.row e.size.height && is_amid j e.first.col e.size.width) i j (i + 1) (j + 1) clear (omega arith)
+        (λ o a b. and_from _ _ (amid-from i o.first.row o.size.height a.top (omega (arith, b.bottom))) (amid-from j o.first.col o.size.width a.left (omega (arith, b.right)))) o e f')))
 
     pub stand-between : StandBetween style aligns g es
     stand-between = record { beside = beside-stands; above = above-stands; around = around-stands }

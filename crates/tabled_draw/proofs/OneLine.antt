@@ -2,12 +2,13 @@
 use Rattle.std.proofs.lemmas.List.Elements.{All-from_recursion}
 use Rattle.std.proofs.lemmas.Option.{unwrap_or-slice_get}
 use Rattle.std.specs.FinMap as map
-use Rattle.std.specs.FinMap.{len, len-empty, len-entries}
+use Rattle.std.specs.FinMap.{entries, len, len-empty, len-entries}
 use Rattle.std.specs.Prelude.{codes}
-use Rattle.tabled_draw.proofs.Common.{[], ◌&&◌, ◌+◌, ◌<◌, ◌==◌, ◌||◌, ◌∙◌, ◌∷◌, ◌≡◌, Alignment, AllByRecursion, Bool, Grid, IsInside, List, Position, Rectangle, Rows, Size, SpanMap, add-one, add-zero, all-append, ap, append-nil, ap₂, arith, border, by_number, cond, cond-true, drawn_lines, each, entries, eqb, false, fitting, fold, get_or, grown_for, heights, in_order, is_hidden_in, largest, length, lines_shown, map, max, nat_lt, ne_eqb, nil_from_length, own, own_sizes, picture, picture_bytes, place, position_cmp, refl, same_place-self, shown_line, slice_split_none, subst, suc, sum, sym, text_of_cell, total, true, zero, ℕ}
+use Rattle.tabled_draw.proofs.Common.{[], ◌&&◌, ◌+◌, ◌<◌, ◌==◌, ◌||◌, ◌∙◌, ◌∷◌, ◌≡◌, Alignment, AllByRecursion, Bool, Grid, IsInside, List, Position, Rectangle, Rows, Size, SpanMap, add-one, add-zero, all-append, ap, append-nil, ap₂, arith, border, by_number, cond, cond-true, drawn_lines, each, rectangles, eqb, false, fitting, fold, get_or, grown_for, heights, in_order, is_hidden_in, largest, length, lines_shown, map, max, nat_lt, ne_eqb, nil_from_length, own, own_sizes, picture, picture_bytes, place, position_cmp, refl, same_place-self, shown_line, slice_split_none, subst, suc, sum, sym, text_of_cell, total, true, zero, ℕ}
 use Rattle.tabled_draw.proofs.Each.{all-each, get-singles, length-singles}
 use Rattle.tabled_draw.proofs.LawPicture.{lines-number}
 use Rattle.tabled_draw.proofs.Sizes.{length-own}
+use Rattle.tabled_grid.specs.Spans.{of_pairs}
 use Rattle.tabled_draw.specs.Markdown.{apart, cell_apart, escaped, escaped_byte, markdown, needs_backslash, row_apart, rows_apart}
 use Rattle.tabled_draw.specs.Picture.{drawn_with}
 use Rattle.tabled_draw.specs.Sizes.{sizes}
@@ -73,7 +74,7 @@ each_none zero = refl
 each_none (suc n) = append-nil (each {A = Rectangle} n (λ k. [])) ∙ each_none n
 
 none_in_order : (g : Grid (List ℕ)) → in_order Rows g [] ≡ []
-none_in_order g = ap (λ (es : List Rectangle). by_number (λ (e : Rectangle). e.1.height) (g.rows + 1) es) (each_none g.rows) ∙ each_none (g.rows + 1)
+none_in_order g = ap (λ (es : List Rectangle). by_number (λ (e : Rectangle). e.size.height) (g.rows + 1) es) (each_none g.rows) ∙ each_none (g.rows + 1)
 
 heights_are : (t : Grid (List ℕ)) → heights MARKDOWN t [] ≡ own_sizes Rows t []
 unfolding sizes
@@ -94,8 +95,8 @@ drawn_one t some = ap (λ n. total n (border Rows MARKDOWN t)) (add-one t.rows) 
 
 -- ---- the lines
 
-no_anchors : (m : SpanMap) → m ≡ map.empty → entries m ≡ []
-no_anchors m is = nil_from_length (entries m) (sym (len-entries m) ∙ ap len is ∙ len-empty position_cmp Size)
+no_anchors : (m : SpanMap) → m ≡ map.empty → rectangles m ≡ []
+no_anchors m is = ap of_pairs (nil_from_length (entries m) (sym (len-entries m) ∙ ap len is ∙ len-empty position_cmp Size))
 
 pub lines-written : (aligns : List Alignment) (g : Grid (List ℕ)) (m : SpanMap) → markdown aligns g m ≡ picture_bytes MARKDOWN aligns (apart g m) []
 unfolding markdown drawn_with
@@ -126,4 +127,4 @@ module _ (g : Grid (List ℕ)) (es : List Rectangle) where
       lines-number MARKDOWN aligns (grid_of (rows_apart g es)) [] inside ∙ ap₂ (λ a b. a + b) high (drawn_one (grid_of (rows_apart g es)) inside.row)
 
 pub lines-rows : (aligns : List Alignment) (g : Grid (List ℕ)) (m : SpanMap) → IsInside g (place 0 0) → length (picture MARKDOWN aligns (apart g m) []) ≡ g.rows + 1
-lines-rows aligns g m some = lines-of g (fitting g.rows g.columns (entries m)) aligns some
+lines-rows aligns g m some = lines-of g (fitting g.rows g.columns (rectangles m)) aligns some

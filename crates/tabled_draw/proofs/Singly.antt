@@ -2,9 +2,9 @@
 use Rattle.std.proofs.lemmas.List.{map-append}
 use Rattle.std.specs.FinMap as map
 use Rattle.std.specs.Global.{Vec}
-use Rattle.tabled_draw.proofs.Common.{[], ◌++◌, ◌+◌, ◌∙◌, ◌∷◌, ◌≡◌, Alignment, AreSpanSizes, Grid, List, SpanMap, Style, all-append, ap, ap₂, each, entries, fitting, keep_fitting, length, length-map, map, map_grid, refl, subst, sym, ℕ}
+use Rattle.tabled_draw.proofs.Common.{[], ◌++◌, ◌+◌, ◌∙◌, ◌∷◌, ◌≡◌, Alignment, AreSpanSizes, Grid, List, SpanMap, Style, all-append, ap, ap₂, each, rectangles, fitting, keep_fitting, length, length-map, map, map_grid, refl, subst, sym, ℕ}
 use Rattle.tabled_draw.proofs.Each.{each-more}
-use Rattle.tabled_draw.proofs.Fitting.{kept-entries}
+use Rattle.tabled_draw.proofs.Fitting.{kept-rectangles}
 use Rattle.tabled_draw.specs.Markdown.{apart, markdown, rows_apart}
 use Rattle.tabled_draw.specs.Picture.{drawn_with}
 use Rattle.tabled_draw.specs.declared.style.TheConstants.Style.{MARKDOWN}
@@ -37,9 +37,9 @@ module _ {A : Type 0} where
   even-wide n (row ∷ rows) wide = record { tall = refl; wide = subst (λ k. AreWide k (row ∷ rows)) (sym wide.0) wide }
 
 -- the texts are those of the table as Markdown has it, by the merged cells that are kept
-pub texts-apart : {A : Type 0} (f : A → List ℕ) (vs : List (Vec A)) (g : Grid (List ℕ)) (m kept : SpanMap) (rows columns : ℕ) → rows ≡ g.rows → columns ≡ g.columns → kept ≡ keep_fitting rows columns m → AreSpanSizes m → map (map f) (map_items vs) ≡ rows_apart g (entries kept) → map_grid f (grid_of (map_items vs)) ≡ apart g m
+pub texts-apart : {A : Type 0} (f : A → List ℕ) (vs : List (Vec A)) (g : Grid (List ℕ)) (m kept : SpanMap) (rows columns : ℕ) → rows ≡ g.rows → columns ≡ g.columns → kept ≡ keep_fitting rows columns m → AreSpanSizes m → map (map f) (map_items vs) ≡ rows_apart g (rectangles kept) → map_grid f (grid_of (map_items vs)) ≡ apart g m
 texts-apart f vs g m kept rows columns is_rows is_columns is sizes texts =
-    let es : entries kept ≡ fitting g.rows g.columns (entries m) = ap entries is ∙ ap₂ (λ r c. entries (keep_fitting r c m)) is_rows is_columns ∙ kept-entries m g.rows g.columns sizes in
+    let es : rectangles kept ≡ fitting g.rows g.columns (rectangles m) = ap rectangles is ∙ ap₂ (λ r c. rectangles (keep_fitting r c m)) is_rows is_columns ∙ kept-rectangles m g.rows g.columns sizes in
     grid-is f (map_items vs) ∙ ap grid_of (texts ∙ ap (rows_apart g) es)
 
 -- the picture of a table's texts as Markdown has them is the table as Markdown

@@ -1,5 +1,5 @@
 -- Columns are as wide, and rows as high, as what they show asks.
-use Rattle.tabled_draw.proofs.Common.{[], Alignment, Style, border, line_size, pad, ◌+◌, ◌-◌, ◌<◌, ◌∙◌, ◌∷◌, ◌≡◌, ◌≢◌, ◌≤◌, ◌⊎◌, ASCII, AllByRecursion, AreEdges, AreNoLargerThanAsked, Columns, Fits, Grid, List, Measured, Member, Option, Position, Rectangle, Rows, Size, Some, SpanMap, across, and_from, ap, ap₂, arith, asks, by_number, cases_Bool, cases_eq, cases_lt, cell_at, cond, cond-false, cond-true, count_along, each, entries, eqb, ext_get_or, false, fold, fold-append, get_or, get_or-replicate, get_or-set_other, get_or-set_same, get_or_past, grown_for, in_order, grown_sizes, inl, inr, is_before, lacking, largest, length, length-replicate, length-set, line_of, lines_in, map_grid, max, most_asked, nat_tests, own, own_sizes, owner_in, place, place_in, raised, refl, replicate, room, same_place, same_place-self, set, share, sized, start_of, subst, suc, sym, take, take_more, takes, text_of_cell, text_width, true, unwrap_or, widths, zero, ℕ}
+use Rattle.tabled_draw.proofs.Common.{[], Alignment, Style, border, line_size, pad, ◌+◌, ◌-◌, ◌<◌, ◌∙◌, ◌∷◌, ◌≡◌, ◌≢◌, ◌≤◌, ◌⊎◌, ASCII, AllByRecursion, AreEdges, AreNoLargerThanAsked, Columns, Fits, Grid, List, Measured, Member, Option, Position, Rectangle, Rows, Size, Some, SpanMap, across, and_from, ap, ap₂, arith, asks, by_number, cases_Bool, cases_eq, cases_lt, cell_at, cond, cond-false, cond-true, count_along, each, rectangles, eqb, ext_get_or, false, fold, fold-append, get_or, get_or-replicate, get_or-set_other, get_or-set_same, get_or_past, grown_for, in_order, grown_sizes, inl, inr, is_before, lacking, largest, length, length-replicate, length-set, line_of, lines_in, map_grid, max, most_asked, nat_tests, own, own_sizes, owner_in, place, place_in, raised, refl, replicate, room, same_place, same_place-self, set, share, sized, start_of, subst, suc, sym, take, take_more, takes, text_of_cell, text_width, true, unwrap_or, widths, zero, ℕ}
 use Rattle.tabled_draw.proofs.Each.{get-singles, length-singles}
 use Rattle.tabled_draw.proofs.Order.{all-of, member-ordered, ordered-member}
 use Rattle.tabled_draw.proofs.Widths.{columns-nil}
@@ -21,7 +21,7 @@ one_line : (axis : Axis) → lines_in axis (sized 1 1) ≡ 1
 one_line axis = grind (arith, nat_tests)
 
 -- what lies in a table has rows and columns of it
-pub lies-along : {A : Type 0} (axis : Axis) (g : Grid A) (e : Rectangle) → LiesIn g.rows g.columns e → (1 ≤ lines_in axis e.1) × (line_of axis e.0 + lines_in axis e.1 ≤ count_along axis g)
+pub lies-along : {A : Type 0} (axis : Axis) (g : Grid A) (e : Rectangle) → LiesIn g.rows g.columns e → (1 ≤ lines_in axis e.size) × (line_of axis e.first + lines_in axis e.size ≤ count_along axis g)
 lies-along axis g e h1 = grind (arith, nat_tests)
 
 own-size : Axis → Grid (List ℕ) → List Rectangle → ℕ → ℕ
@@ -33,7 +33,7 @@ length-own axis g es = length-singles (own-size axis g es) (count_along axis g)
 
 module _ (axis : Axis) (style : Style) (g : Grid (List ℕ)) where
   larger-for : (s : List ℕ) (e : Rectangle) → Larger s (grown_for axis style g s e)
-  larger-for s e = grown-larger axis (border axis style g) s (line_of axis e.0) (lines_in axis e.1) (asks axis (text_of_cell g e.0))
+  larger-for s e = grown-larger axis (border axis style g) s (line_of axis e.first) (lines_in axis e.size) (asks axis (text_of_cell g e.first))
 
   fold-larger : (es : List Rectangle) (s : List ℕ) → Larger s (fold (grown_for axis style g) s es)
   fold-larger [] s = record { long = refl; each = λ k. omega arith }
@@ -41,22 +41,22 @@ module _ (axis : Axis) (style : Style) (g : Grid (List ℕ)) where
 
   -- these take rows or columns of some sizes
   LieAmong : List ℕ → List Rectangle → Type 0
-  LieAmong s es = (e : Rectangle) → Member e es → (1 ≤ lines_in axis e.1) × (line_of axis e.0 + lines_in axis e.1 ≤ length s)
+  LieAmong s es = (e : Rectangle) → Member e es → (1 ≤ lines_in axis e.size) × (line_of axis e.first + lines_in axis e.size ≤ length s)
 
   lie-later : (s : List ℕ) (x : Rectangle) (es : List Rectangle) → LieAmong s (x ∷ es) → LieAmong (grown_for axis style g s x) es
   unfolding LieAmong
   lie-later s x es all e m = ((all e (inr m)).0, (let inside = (all e (inr m)).1 in omega (arith, (larger-for s x).long)))
 
   fold-enough : (es : List Rectangle) (s : List ℕ) → LieAmong s es
-      → (e : Rectangle) → Member e es → asks axis (text_of_cell g e.0) ≤ span axis (border axis style g) (fold (grown_for axis style g) s es) (line_of axis e.0) (lines_in axis e.1) - border axis style g (line_of axis e.0) - pad axis
+      → (e : Rectangle) → Member e es → asks axis (text_of_cell g e.first) ≤ span axis (border axis style g) (fold (grown_for axis style g) s es) (line_of axis e.first) (lines_in axis e.size) - border axis style g (line_of axis e.first) - pad axis
   unfolding LieAmong
   fold-enough [] s all e m = absurd m
   fold-enough (x ∷ es) s all e (inl same) =
-      let need = asks axis (text_of_cell g x.0) in
+      let need = asks axis (text_of_cell g x.first) in
       let t = grown_for axis style g s x in
       let inside = all x (inl refl) in
-      let first : need ≤ span axis (border axis style g) t (line_of axis x.0) (lines_in axis x.1) - border axis style g (line_of axis x.0) - pad axis = grown-enough axis (border axis style g) s (line_of axis x.0) (lines_in axis x.1) need inside.0 inside.1 in
-      let later : span axis (border axis style g) t (line_of axis x.0) (lines_in axis x.1) ≤ span axis (border axis style g) (fold (grown_for axis style g) t es) (line_of axis x.0) (lines_in axis x.1) = span-larger axis (border axis style g) t (fold (grown_for axis style g) t es) (fold-larger es t) (line_of axis x.0) (lines_in axis x.1) in
+      let first : need ≤ span axis (border axis style g) t (line_of axis x.first) (lines_in axis x.size) - border axis style g (line_of axis x.first) - pad axis = grown-enough axis (border axis style g) s (line_of axis x.first) (lines_in axis x.size) need inside.0 inside.1 in
+      let later : span axis (border axis style g) t (line_of axis x.first) (lines_in axis x.size) ≤ span axis (border axis style g) (fold (grown_for axis style g) t es) (line_of axis x.first) (lines_in axis x.size) = span-larger axis (border axis style g) t (fold (grown_for axis style g) t es) (fold-larger es t) (line_of axis x.first) (lines_in axis x.size) in
       rw same (omega arith)
   fold-enough (x ∷ es) s all e (inr m) = fold-enough es (grown_for axis style g s x) (lie-later s x es all) e m
 
@@ -67,13 +67,13 @@ module _ (axis : Axis) (style : Style) (g : Grid (List ℕ)) where
 
     -- what stands in order stands in the list
     pub from-order : (e : Rectangle) → Member e (in_order axis g es) → Member e es
-    from-order e m = ordered-member (λ (x : Rectangle). line_of axis x.0) (count_along axis g) es e (ordered-member (λ (x : Rectangle). lines_in axis x.1) (count_along axis g + 1) (by_number (λ (x : Rectangle). line_of axis x.0) (count_along axis g) es) e m)
+    from-order e m = ordered-member (λ (x : Rectangle). line_of axis x.first) (count_along axis g) es e (ordered-member (λ (x : Rectangle). lines_in axis x.size) (count_along axis g + 1) (by_number (λ (x : Rectangle). line_of axis x.first) (count_along axis g) es) e m)
 
     -- and the other way round, where it lies in the table
     in-order : LieWell g.rows g.columns es → (e : Rectangle) → Member e es → Member e (in_order axis g es)
     in-order well e m =
         let here = lies-along axis g e (well.lies e m) in
-        member-ordered (λ (x : Rectangle). lines_in axis x.1) (count_along axis g + 1) (by_number (λ (x : Rectangle). line_of axis x.0) (count_along axis g) es) e (member-ordered (λ (x : Rectangle). line_of axis x.0) (count_along axis g) es e m (omega (arith, here.0, here.1))) (omega (arith, here.0, here.1))
+        member-ordered (λ (x : Rectangle). lines_in axis x.size) (count_along axis g + 1) (by_number (λ (x : Rectangle). line_of axis x.first) (count_along axis g) es) e (member-ordered (λ (x : Rectangle). line_of axis x.first) (count_along axis g) es e m (omega (arith, here.0, here.1))) (omega (arith, here.0, here.1))
 
     lie-among : LieWell g.rows g.columns es → LieAmong (own_sizes axis g es) (in_order axis g es)
     unfolding LieAmong
@@ -83,7 +83,7 @@ module _ (axis : Axis) (style : Style) (g : Grid (List ℕ)) where
     start-next k = start-more axis (border axis style g) (sizes axis style g es) k
 
     -- each owner has as much room as its text asks
-    pub room-enough : LieWell g.rows g.columns es → (p : Position) → p.row < g.rows → p.col < g.columns → asks axis (text_of_cell g (owner_in es p).0) ≤ room axis (border axis style g) (sizes axis style g es) (line_of axis (owner_in es p).0) (lines_in axis (owner_in es p).1)
+    pub room-enough : LieWell g.rows g.columns es → (p : Position) → p.row < g.rows → p.col < g.columns → asks axis (text_of_cell g (owner_in es p).first) ≤ room axis (border axis style g) (sizes axis style g es) (line_of axis (owner_in es p).first) (lines_in axis (owner_in es p).size)
     unfolding sizes own-size
     room-enough well p low far = by (owned es p)
       where
@@ -99,14 +99,14 @@ module _ (axis : Axis) (style : Style) (g : Grid (List ℕ)) where
         line_below : (a : Axis) → line_of a p < count_along a g
         line_below a = grind (arith, nat_tests)
 
-        by : Owned es p o → asks axis (text_of_cell g o.0) ≤ room axis (border axis style g) (sizes axis style g es) (line_of axis o.0) (lines_in axis o.1)
+        by : Owned es p o → asks axis (text_of_cell g o.first) ≤ room axis (border axis style g) (sizes axis style g es) (line_of axis o.first) (lines_in axis o.size)
         by (held m h) =
-            let enough : asks axis (text_of_cell g o.0) ≤ span axis (border axis style g) (sizes axis style g es) (line_of axis o.0) (lines_in axis o.1) - border axis style g (line_of axis o.0) - pad axis = fold-enough (in_order axis g es) base (lie-among well) o (in-order well o m) in
-            let r : room axis (border axis style g) (sizes axis style g es) (line_of axis o.0) (lines_in axis o.1) ≡ span axis (border axis style g) (sizes axis style g es) (line_of axis o.0) (lines_in axis o.1) - border axis style g (line_of axis o.0) - pad axis = room-span axis (border axis style g) (sizes axis style g es) (line_of axis o.0) (lines_in axis o.1) in
+            let enough : asks axis (text_of_cell g o.first) ≤ span axis (border axis style g) (sizes axis style g es) (line_of axis o.first) (lines_in axis o.size) - border axis style g (line_of axis o.first) - pad axis = fold-enough (in_order axis g es) base (lie-among well) o (in-order well o m) in
+            let r : room axis (border axis style g) (sizes axis style g es) (line_of axis o.first) (lines_in axis o.size) ≡ span axis (border axis style g) (sizes axis style g es) (line_of axis o.first) (lines_in axis o.size) - border axis style g (line_of axis o.first) - pad axis = room-span axis (border axis style g) (sizes axis style g es) (line_of axis o.first) (lines_in axis o.size) in
             omega arith
         by (alone is never) =
-            let one : lines_in axis o.1 ≡ 1 = ap (λ (x : Rectangle). lines_in axis x.1) is ∙ one_line axis in
-            let asked : own axis g es p ≡ asks axis (text_of_cell g p) = cond-true _ _ _ (and_from _ _ (ap (λ (x : Rectangle). same_place x.0 p) is ∙ same_place-self p) (ap (λ n. eqb n 1) one)) in
+            let one : lines_in axis o.size ≡ 1 = ap (λ (x : Rectangle). lines_in axis x.size) is ∙ one_line axis in
+            let asked : own axis g es p ≡ asks axis (text_of_cell g p) = cond-true _ _ _ (and_from _ _ (ap (λ (x : Rectangle). same_place x.first p) is ∙ same_place-self p) (ap (λ n. eqb n 1) one)) in
             let i = line_of axis p in
             let j = line_of (across axis) p in
             let there : own axis g es (place_in axis i j) ≡ own axis g es p = ap (own axis g es) (place_is axis p) in
@@ -143,39 +143,39 @@ module _ (axis : Axis) (style : Style) (g : Grid (List ℕ)) where
       most-each (x ∷ xs) m e (inr later) t = most-each xs (most m x) e later t
 
       -- a size that grows for a merged cell is no larger than what is lacking beside the others
-      grown-low : (s : List ℕ) (e : Rectangle) (much : ℕ) → Larger (own_sizes axis g es) s → 1 ≤ lines_in axis e.1 → line_of axis e.0 + lines_in axis e.1 ≤ length s → (takes axis k e ≡ true → lacking axis style g es k e ≤ much) → get_or s k 0 ≤ much → get_or (grown_for axis style g s e) k 0 ≤ much
+      grown-low : (s : List ℕ) (e : Rectangle) (much : ℕ) → Larger (own_sizes axis g es) s → 1 ≤ lines_in axis e.size → line_of axis e.first + lines_in axis e.size ≤ length s → (takes axis k e ≡ true → lacking axis style g es k e ≤ much) → get_or s k 0 ≤ much → get_or (grown_for axis style g s e) k 0 ≤ much
       grown-low s e much larger some inside enough low = by (cases_lt k (length s)) (cases_Bool (takes axis k e))
         where
           at : ℕ
-          at = line_of axis e.0
+          at = line_of axis e.first
 
           n : ℕ
-          n = lines_in axis e.1
+          n = lines_in axis e.size
 
           need : ℕ
-          need = asks axis (text_of_cell g e.0)
+          need = asks axis (text_of_cell g e.first)
 
           lack : ℕ
-          lack = need - room axis (border axis style g) s (line_of axis e.0) (lines_in axis e.1)
+          lack = need - room axis (border axis style g) s (line_of axis e.first) (lines_in axis e.size)
 
-          ranged : takes axis k e ≡ true → (line_of axis e.0 ≤ k) × (k < line_of axis e.0 + lines_in axis e.1)
+          ranged : takes axis k e ≡ true → (line_of axis e.first ≤ k) × (k < line_of axis e.first + lines_in axis e.size)
           ranged t = grind (arith, nat_tests)
 
-          taken : k < length s → takes axis k e ≡ true → get_or s k 0 + share (asks axis (text_of_cell g e.0) - room axis (border axis style g) s (line_of axis e.0) (lines_in axis e.1)) (line_of axis e.0) (lines_in axis e.1) k ≤ much
+          taken : k < length s → takes axis k e ≡ true → get_or s k 0 + share (asks axis (text_of_cell g e.first) - room axis (border axis style g) s (line_of axis e.first) (lines_in axis e.size)) (line_of axis e.first) (lines_in axis e.size) k ≤ much
           taken less t =
               let base = own_sizes axis g es in
               let within = ranged t in
-              let shared : share (need - room axis (border axis style g) s (line_of axis e.0) (lines_in axis e.1)) (line_of axis e.0) (lines_in axis e.1) k ≤ need - room axis (border axis style g) s (line_of axis e.0) (lines_in axis e.1) = share-low (need - room axis (border axis style g) s (line_of axis e.0) (lines_in axis e.1)) (line_of axis e.0) (lines_in axis e.1) k some in
-              let without : room axis (border axis style g) s (line_of axis e.0) (lines_in axis e.1) ≡ room axis (border axis style g) (set s k 0) (line_of axis e.0) (lines_in axis e.1) + get_or s k 0 = room-without axis (border axis style g) s k (line_of axis e.0) (lines_in axis e.1) less within.0 within.1 in
-              let more : room axis (border axis style g) (set base k 0) (line_of axis e.0) (lines_in axis e.1) ≤ room axis (border axis style g) (set s k 0) (line_of axis e.0) (lines_in axis e.1) = room-larger axis (border axis style g) base k s larger (line_of axis e.0) (lines_in axis e.1) in
-              let most : asks axis (text_of_cell g e.0) - room axis (border axis style g) (set base k 0) (line_of axis e.0) (lines_in axis e.1) ≤ much = enough t in
+              let shared : share (need - room axis (border axis style g) s (line_of axis e.first) (lines_in axis e.size)) (line_of axis e.first) (lines_in axis e.size) k ≤ need - room axis (border axis style g) s (line_of axis e.first) (lines_in axis e.size) = share-low (need - room axis (border axis style g) s (line_of axis e.first) (lines_in axis e.size)) (line_of axis e.first) (lines_in axis e.size) k some in
+              let without : room axis (border axis style g) s (line_of axis e.first) (lines_in axis e.size) ≡ room axis (border axis style g) (set s k 0) (line_of axis e.first) (lines_in axis e.size) + get_or s k 0 = room-without axis (border axis style g) s k (line_of axis e.first) (lines_in axis e.size) less within.0 within.1 in
+              let more : room axis (border axis style g) (set base k 0) (line_of axis e.first) (lines_in axis e.size) ≤ room axis (border axis style g) (set s k 0) (line_of axis e.first) (lines_in axis e.size) = room-larger axis (border axis style g) base k s larger (line_of axis e.first) (lines_in axis e.size) in
+              let most : asks axis (text_of_cell g e.first) - room axis (border axis style g) (set base k 0) (line_of axis e.first) (lines_in axis e.size) ≤ much = enough t in
               omega arith
 
           by : (k < length s) ⊎ (length s ≤ k) → (takes axis k e ≡ true) ⊎ (takes axis k e ≡ false) → get_or (grown_for axis style g s e) k 0 ≤ much
-          by (inl less) (inl t) = rw (get-grown axis (border axis style g) s (line_of axis e.0) (lines_in axis e.1) (asks axis (text_of_cell g e.0)) k less) (taken less t)
+          by (inl less) (inl t) = rw (get-grown axis (border axis style g) s (line_of axis e.first) (lines_in axis e.size) (asks axis (text_of_cell g e.first)) k less) (taken less t)
           by (inl less) (inr f) =
-              let now : get_or (grown_for axis style g s e) k 0 ≡ get_or s k 0 + share (asks axis (text_of_cell g e.0) - room axis (border axis style g) s (line_of axis e.0) (lines_in axis e.1)) (line_of axis e.0) (lines_in axis e.1) k = get-grown axis (border axis style g) s (line_of axis e.0) (lines_in axis e.1) (asks axis (text_of_cell g e.0)) k less in
-              let none : share (asks axis (text_of_cell g e.0) - room axis (border axis style g) s (line_of axis e.0) (lines_in axis e.1)) (line_of axis e.0) (lines_in axis e.1) k ≡ 0 = share-outside (asks axis (text_of_cell g e.0) - room axis (border axis style g) s (line_of axis e.0) (lines_in axis e.1)) (line_of axis e.0) (lines_in axis e.1) k f in
+              let now : get_or (grown_for axis style g s e) k 0 ≡ get_or s k 0 + share (asks axis (text_of_cell g e.first) - room axis (border axis style g) s (line_of axis e.first) (lines_in axis e.size)) (line_of axis e.first) (lines_in axis e.size) k = get-grown axis (border axis style g) s (line_of axis e.first) (lines_in axis e.size) (asks axis (text_of_cell g e.first)) k less in
+              let none : share (asks axis (text_of_cell g e.first) - room axis (border axis style g) s (line_of axis e.first) (lines_in axis e.size)) (line_of axis e.first) (lines_in axis e.size) k ≡ 0 = share-outside (asks axis (text_of_cell g e.first) - room axis (border axis style g) s (line_of axis e.first) (lines_in axis e.size)) (line_of axis e.first) (lines_in axis e.size) k f in
               omega arith
           by (inr past) _ =
               let none : get_or (grown_for axis style g s e) k 0 ≡ 0 = get_or_past (grown_for axis style g s e) k 0 (omega (arith, (larger-for s e).long, past)) in
@@ -216,36 +216,36 @@ pub fold-more : {A B : Type 0} (f : B → A → B) (a : B) (xs : List A) (k : �
 fold-more f a xs k d h = ap (fold f a) (take_more xs k d h) ∙ fold-append f a (take k xs) (get_or xs k d ∷ [])
 
 -- what is known of a merged cell of those that fit
-pub anchor-at : (m : SpanMap) (rows columns : ℕ) → Fits m rows columns → (k : ℕ) (d : Rectangle) → k < length (entries m) → LiesIn rows columns (get_or (entries m) k d)
-anchor-at m rows columns fits k d h = (fits-well m rows columns fits).lies (get_or (entries m) k d) (member-at (entries m) k d h)
+pub anchor-at : (m : SpanMap) (rows columns : ℕ) → Fits m rows columns → (k : ℕ) (d : Rectangle) → k < length (rectangles m) → LiesIn rows columns (get_or (rectangles m) k d)
+anchor-at m rows columns fits k d h = (fits-well m rows columns fits).lies (get_or (rectangles m) k d) (member-at (rectangles m) k d h)
 
 -- they stand in order where they are put so by what each takes
-pub order-is : (axis : Axis) (g : Grid (List ℕ)) (m : SpanMap) (xs order : List Rectangle) → Fits m g.rows g.columns → xs ≡ entries m
-    → ((k n : ℕ) → AllByRecursion (λ (e : Rectangle). (lines_in axis e.1 < k) × (line_of axis e.0 < n)) xs → order ≡ by_number (λ (e : Rectangle). lines_in axis e.1) k (by_number (λ (e : Rectangle). line_of axis e.0) n xs))
-    → order ≡ in_order axis g (entries m)
+pub order-is : (axis : Axis) (g : Grid (List ℕ)) (m : SpanMap) (xs order : List Rectangle) → Fits m g.rows g.columns → xs ≡ rectangles m
+    → ((k n : ℕ) → AllByRecursion (λ (e : Rectangle). (lines_in axis e.size < k) × (line_of axis e.first < n)) xs → order ≡ by_number (λ (e : Rectangle). lines_in axis e.size) k (by_number (λ (e : Rectangle). line_of axis e.first) n xs))
+    → order ≡ in_order axis g (rectangles m)
 order-is axis g m xs order fits is put =
-    put (count_along axis g + 1) (count_along axis g) (rw is (all-of (λ (e : Rectangle). (lines_in axis e.1 < count_along axis g + 1) × (line_of axis e.0 < count_along axis g)) (entries m) (λ e among. below (lies-along axis g e ((fits-well m g.rows g.columns fits).lies e among)))))
+    put (count_along axis g + 1) (count_along axis g) (rw is (all-of (λ (e : Rectangle). (lines_in axis e.size < count_along axis g + 1) × (line_of axis e.first < count_along axis g)) (rectangles m) (λ e among. below (lies-along axis g e ((fits-well m g.rows g.columns fits).lies e among)))))
     ∙ ap (in_order axis g) is
   where
     below : {n at : ℕ} → (1 ≤ n) × (at + n ≤ count_along axis g) → (n < count_along axis g + 1) × (at < count_along axis g)
     below h = (omega (arith, h.0, h.1), omega (arith, h.0, h.1))
 
 -- and of one of them in order
-pub ordered-at : (axis : Axis) (g : Grid (List ℕ)) (m : SpanMap) (rows columns : ℕ) → Fits m rows columns → (xs : List Rectangle) → xs ≡ in_order axis g (entries m) → (k : ℕ) (e : Rectangle) → k < length xs → e ≡ get_or xs k e → LiesIn rows columns e
+pub ordered-at : (axis : Axis) (g : Grid (List ℕ)) (m : SpanMap) (rows columns : ℕ) → Fits m rows columns → (xs : List Rectangle) → xs ≡ in_order axis g (rectangles m) → (k : ℕ) (e : Rectangle) → k < length xs → e ≡ get_or xs k e → LiesIn rows columns e
 ordered-at axis g m rows columns fits xs is k e h at =
-    let among : Member e (in_order axis g (entries m)) = subst (λ (ys : List Rectangle). Member e ys) is (subst (λ (x : Rectangle). Member x xs) (sym at) (member-at xs k e h)) in
-    (fits-well m rows columns fits).lies e (from-order axis ASCII g (entries m) e among)
+    let among : Member e (in_order axis g (rectangles m)) = subst (λ (ys : List Rectangle). Member e ys) is (subst (λ (x : Rectangle). Member x xs) (sym at) (member-at xs k e h)) in
+    (fits-well m rows columns fits).lies e (from-order axis ASCII g (rectangles m) e among)
 
-pub grown-more : (axis : Axis) (style : Style) (g : Grid (List ℕ)) (base : List ℕ) (k : ℕ) (e : Rectangle) (xs : List Rectangle) → k < length xs → e ≡ get_or xs k e → (s : List ℕ) (text : List ℕ) → cell_at g e.0 ≡ Some text → (n : ℕ) (new : List ℕ)
-    → s ≡ fold (grown_for axis style g) base (take k xs) → n ≡ asks axis text → new ≡ grown_sizes axis (border axis style g) s (line_of axis e.0) (lines_in axis e.1) n
+pub grown-more : (axis : Axis) (style : Style) (g : Grid (List ℕ)) (base : List ℕ) (k : ℕ) (e : Rectangle) (xs : List Rectangle) → k < length xs → e ≡ get_or xs k e → (s : List ℕ) (text : List ℕ) → cell_at g e.first ≡ Some text → (n : ℕ) (new : List ℕ)
+    → s ≡ fold (grown_for axis style g) base (take k xs) → n ≡ asks axis text → new ≡ grown_sizes axis (border axis style g) s (line_of axis e.first) (lines_in axis e.size) n
     → new ≡ fold (grown_for axis style g) base (take (k + 1) xs)
 grown-more axis style g base k e xs within at s text read n new was many grew =
-    grew ∙ ap (grown_sizes axis (border axis style g) s (line_of axis e.0) (lines_in axis e.1)) (many ∙ ap (asks axis) (sym (ap (λ (o : Option (List ℕ)). unwrap_or o []) read)))
+    grew ∙ ap (grown_sizes axis (border axis style g) s (line_of axis e.first) (lines_in axis e.size)) (many ∙ ap (asks axis) (sym (ap (λ (o : Option (List ℕ)). unwrap_or o []) read)))
     ∙ ap₂ (grown_for axis style g) was at ∙ sym (fold-more (grown_for axis style g) base xs k e within)
 
-pub sizes-is : (axis : Axis) (style : Style) (g : Grid (List ℕ)) (m : SpanMap) (base s : List ℕ) → base ≡ own_sizes axis g (entries m) → s ≡ fold (grown_for axis style g) base (in_order axis g (entries m)) → s ≡ sizes axis style g (entries m)
+pub sizes-is : (axis : Axis) (style : Style) (g : Grid (List ℕ)) (m : SpanMap) (base s : List ℕ) → base ≡ own_sizes axis g (rectangles m) → s ≡ fold (grown_for axis style g) base (in_order axis g (rectangles m)) → s ≡ sizes axis style g (rectangles m)
 unfolding sizes
-sizes-is axis style g m base s first is = is ∙ ap (λ b. fold (grown_for axis style g) b (in_order axis g (entries m))) first
+sizes-is axis style g m base s first is = is ∙ ap (λ b. fold (grown_for axis style g) b (in_order axis g (rectangles m))) first
 
 -- ---- lists of what a function gives
 
@@ -354,9 +354,9 @@ module _ (axis : Axis) (g : Grid (List ℕ)) (es : List Rectangle) where
   pub own-long : (s : List ℕ) → s ≡ own_sizes axis g es → length s ≡ count_along axis g
   own-long s is = ap length is ∙ length-own axis g es
 
-pub edges-of : (style : Style) (g : Grid (List ℕ)) (m : SpanMap) (ws edges : List ℕ) → ws ≡ widths style g (entries m) → length edges ≡ length ws + 1 → ((k : ℕ) → k < length ws + 1 → get_or edges k 0 ≡ start_of Columns (line_size style.columns (length ws)) ws k) → AreEdges style g m edges
+pub edges-of : (style : Style) (g : Grid (List ℕ)) (m : SpanMap) (ws edges : List ℕ) → ws ≡ widths style g (rectangles m) → length edges ≡ length ws + 1 → ((k : ℕ) → k < length ws + 1 → get_or edges k 0 ≡ start_of Columns (line_size style.columns (length ws)) ws k) → AreEdges style g m edges
 edges-of style g m ws edges is long each-is =
-    let many : length ws ≡ g.columns = ap length is ∙ length-sizes Columns style g (entries m) in
+    let many : length ws ≡ g.columns = ap length is ∙ length-sizes Columns style g (rectangles m) in
     record {
       long = long ∙ ap (λ n. n + 1) many;
       each = λ k h. each-is k (omega (arith, h, many)) ∙ ap₂ (λ n (s : List ℕ). start_of Columns (line_size style.columns n) s k) many is;

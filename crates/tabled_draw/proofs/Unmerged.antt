@@ -1,5 +1,5 @@
 -- Lines of tables without merged cells.
-use Rattle.tabled_draw.proofs.Common.{ASCII, Alignment, AreUnmerged, Bool, Fits, Grid, IsOwnerRow, List, None, Option, Rectangle, SpanMap, Style, [], ap, ap₂, are_none, arith, arms, corner, replicate, size_if, cond, cond-true, corner_if, differ, edge_before, entries, eqb-true, false, get_or, is_drawn, left_of, length, level, line_between, lt-ltb, marked, meeting, nat_lt, nil_from_length, refl, stretches, sym, true, unmerged_arms, unmerged_corner, unmerged_stretch, ℕ, ◌&&◌, ◌++◌, ◌+◌, ◌<◌, ◌==◌, ◌∙◌, ◌∷◌, ◌≡◌, ◌≤◌}
+use Rattle.tabled_draw.proofs.Common.{ASCII, Alignment, AreUnmerged, Bool, Fits, Grid, IsOwnerRow, List, None, Option, Rectangle, SpanMap, Style, [], ap, ap₂, are_none, arith, arms, corner, replicate, size_if, cond, cond-true, corner_if, differ, edge_before, rectangles, eqb-true, false, get_or, is_drawn, left_of, length, level, line_between, lt-ltb, marked, meeting, nat_lt, nil_from_length, refl, stretches, sym, true, unmerged_arms, unmerged_corner, unmerged_stretch, ℕ, ◌&&◌, ◌++◌, ◌+◌, ◌<◌, ◌==◌, ◌∙◌, ◌∷◌, ◌≡◌, ◌≤◌}
 use Rattle.tabled_draw.proofs.Arms.{marked-corner, same-arms}
 use Rattle.tabled_draw.proofs.Each.{each-same}
 use Rattle.tabled_draw.proofs.LawPicture.{arms-meet}
@@ -26,16 +26,16 @@ between-is style rows columns i edges some within = ap (λ x. x ++ (10 ∷ [])) 
     corner-is j = ap (λ x. marked (is_drawn style.columns columns j) (corner_if style x)) (same-arms _ _ _ _ _ _ _ _ (sym (lt-ltb 0 i some)) refl (sym (lt-ltb i rows within)) refl)
 
 -- where no cells are merged, the arms are those of the table alone
-pub unmerged-rows : (g : Grid (List ℕ)) (m : SpanMap) (i rows columns : ℕ) (above below : List (Option Rectangle)) → rows ≡ g.rows → columns ≡ g.columns → Fits m g.rows g.columns → 0 < g.rows → 0 < g.columns → entries m ≡ [] → i ≤ g.rows
+pub unmerged-rows : (g : Grid (List ℕ)) (m : SpanMap) (i rows columns : ℕ) (above below : List (Option Rectangle)) → rows ≡ g.rows → columns ≡ g.columns → Fits m g.rows g.columns → 0 < g.rows → 0 < g.columns → rectangles m ≡ [] → i ≤ g.rows
     → IsOwnerRow g.rows g.columns m i above → IsOwnerRow g.rows g.columns m (i + 1) below → AreUnmerged rows columns i above below
 unmerged-rows g m i rows columns above below same_rows same_columns fits high wide none within over under = record { each = λ j less. by j (omega (arith, less, same_columns)) }
   where
     by : (j : ℕ) → j ≤ g.columns → arms (get_or above j None) (get_or above (j + 1) None) (get_or below j None) (get_or below (j + 1) None) ≡ unmerged_arms rows columns i j
     by j less =
-        let first : arms (get_or above j None) (get_or above (j + 1) None) (get_or below j None) (get_or below (j + 1) None) ≡ arms (owner g.rows g.columns (entries m) i j) (owner g.rows g.columns (entries m) i (j + 1)) (owner g.rows g.columns (entries m) (i + 1) j) (owner g.rows g.columns (entries m) (i + 1) (j + 1)) =
+        let first : arms (get_or above j None) (get_or above (j + 1) None) (get_or below j None) (get_or below (j + 1) None) ≡ arms (owner g.rows g.columns (rectangles m) i j) (owner g.rows g.columns (rectangles m) i (j + 1)) (owner g.rows g.columns (rectangles m) (i + 1) j) (owner g.rows g.columns (rectangles m) (i + 1) (j + 1)) =
         rw (over.each j (omega (arith, less)), over.each (j + 1) (omega (arith, less)), under.each j (omega (arith, less)), under.each (j + 1) (omega (arith, less))) refl in
         first
-        ∙ arms-meet ASCII [] g (entries m) (fits-well m g.rows g.columns fits) (record { row = high; col = wide }) i j within less
+        ∙ arms-meet ASCII [] g (rectangles m) (fits-well m g.rows g.columns fits) (record { row = high; col = wide }) i j within less
         ∙ ap (λ es. meeting g es i j) none
         ∙ same-arms _ _ _ _ _ _ _ _ (with-true (nat_lt 0 i)) (with-true (nat_lt j g.columns) ∙ ap (nat_lt j) (sym same_columns)) (with-true (nat_lt i g.rows) ∙ ap (nat_lt i) (sym same_rows)) (with-true (nat_lt 0 j))
 

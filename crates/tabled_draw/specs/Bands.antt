@@ -1,6 +1,5 @@
 -- What is known where the lines of a picture are drawn: what they share, and what changes from line to line.
 use Rattle.std.specs.Prelude.{◌≡◌, ◌+◌, ℕ, List, length}
-use Rattle.std.specs.FinMap.{entries}
 use denote.Ref.{Bor}
 use Rattle.tabled_draw.specs.Laid.{AreEdges}
 use Rattle.tabled_draw.specs.OwnerRows.{IsOwnerRow, count_before}
@@ -11,14 +10,14 @@ use Rattle.tabled_draw.specs.declared.sheet.Sheet.{Sheet}
 use Rattle.tabled_draw.specs.declared.style.Style.{Style}
 use Rattle.tabled_grid.specs.Fitting.{Fits}
 use Rattle.tabled_grid.specs.Grid.{Grid}
-use Rattle.tabled_grid.specs.Spans.{SpanMap}
+use Rattle.tabled_grid.specs.Spans.{SpanMap, rectangles}
 
 -- what the lines of a table's picture share
 pub record IsSheet (g : Grid (List ℕ)) (m : SpanMap) (sheet : Sheet) : Type 0 where
   pub fits : Fits m g.rows g.columns
   pub rows : sheet.rows ≡ g.rows
   pub columns : sheet.columns ≡ g.columns
-  pub high : sheet.heights.now ≡ heights sheet.look.style g (entries m)
+  pub high : sheet.heights.now ≡ heights sheet.look.style g (rectangles m)
   pub tall : length sheet.heights.now ≡ g.rows
   pub edges : AreEdges sheet.look.style g m sheet.edges.now
 
@@ -32,6 +31,6 @@ pub record HasRoom (columns : ℕ) (over under : List Owner) (rests : List (Bor 
 pub record IsBand (style : Style) (g : Grid (List ℕ)) (m : SpanMap) (i : ℕ) (over under : List Owner) (count : ℕ) (rests : List (Bor (List ℕ))) : Type 0 where
   pub above : IsOwnerRow g.rows g.columns m i over
   pub here : length under ≡ g.columns + 2
-  pub next : count ≡ count_before i 0 (entries m)
+  pub next : count ≡ count_before i 0 (rectangles m)
   pub long : length rests ≡ g.columns
   pub left : AreLeftAbove style g m i rests

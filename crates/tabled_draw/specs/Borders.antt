@@ -39,7 +39,7 @@ abbrev pub differ : Owner → Owner → Bool
 differ None None = false
 differ None (Some q) = true
 differ (Some p) None = true
-differ (Some p) (Some q) = not (same_place p.0 q.0)
+differ (Some p) (Some q) = not (same_place p.first q.first)
 
 -- the arms of a corner: the borders that end there
 pub record Arms : Type 0 where

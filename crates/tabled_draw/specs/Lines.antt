@@ -1,6 +1,5 @@
 -- Lines of a picture, by what is known as they are written.
 use Rattle.std.specs.Prelude.{◌≡◌, ◌≢◌, ◌+◌, ◌-◌, ◌<◌, ◌≤◌, ◌==◌, ◌++◌, if◌then◌else◌, ℕ, Bool, false, List, [], ◌∷◌, Option, None, Some, encode_utf8_all, replicate, slice_index_or}
-use Rattle.std.specs.FinMap.{entries}
 use Rattle.std.specs.List.{All, after_first}
 use Rattle.tabled_draw.specs.Alignments.{aligned, alignment_in}
 use Rattle.tabled_draw.specs.Borders.{are_none, arms, border, corner_if, differ, is_drawn, mark, size_if, unmerged_arms}
@@ -15,7 +14,8 @@ use Rattle.tabled_grid.specs.declared.records.axis.Axis.TheVariants.{Columns, Ro
 use Rattle.tabled_grid.specs.Entity.{same_place}
 use Rattle.tabled_grid.specs.Grid.{Grid}
 use Rattle.tabled_grid.specs.declared.config.position.Position.{Position}
-use Rattle.tabled_grid.specs.Spans.{Rectangle, SpanMap}
+use Rattle.tabled_grid.specs.Spans.{SpanMap, rectangles}
+use Rattle.tabled_grid.specs.declared.config.rectangle.Rectangle.{Rectangle}
 
 -- the first line of a text, as it is shown
 abbrev pub first_line : List ℕ → List ℕ
@@ -46,7 +46,7 @@ cell alignment text space = aligned alignment space (first_line text)
 -- an owner begins in a column
 abbrev pub begins : ℕ → Owner → Bool
 begins j None = false
-begins j (Some o) = o.0.col == j
+begins j (Some o) = o.first.col == j
 
 -- a border between two rows, in a column at whose left edge a line is drawn or not
 abbrev pub level : Style → Bool → List ℕ → ℕ → List ℕ
@@ -55,7 +55,7 @@ level style drawn edges j = replicate (slice_index_or edges (j + 1) 0 - slice_in
 -- what an owner shows in a column: its text, if it begins there
 abbrev pub text_inside : List Alignment → Bool → List ℕ → ℕ → Owner → List ℕ → List ℕ
 text_inside aligns drawn edges j None text = []
-text_inside aligns drawn edges j (Some o) text = if o.0.col == j then cell (alignment_in aligns j) text (slice_index_or edges (j + o.1.width) 0 - slice_index_or edges j 0 - size_if drawn - pad Columns) else []
+text_inside aligns drawn edges j (Some o) text = if o.first.col == j then cell (alignment_in aligns j) text (slice_index_or edges (j + o.size.width) 0 - slice_index_or edges j 0 - size_if drawn - pad Columns) else []
 
 -- what stands in a column: a border, or what an owner shows
 abbrev pub column_if : Style → List Alignment → Bool → Bool → List ℕ → ℕ → Owner → List ℕ → List ℕ
@@ -124,13 +124,13 @@ pub record AreUnmerged (rows columns i : ℕ) (above below : List Owner) : Type 
 
 -- the owners of a row have ends inside the table
 pub record EndInside (columns : ℕ) (row : List Owner) : Type 0 where
-  pub each : (j : ℕ) (o : Rectangle) → j < columns → slice_index_or row (j + 1) None ≡ Some o → o.0.col ≡ j → j + o.1.width < columns + 1
+  pub each : (j : ℕ) (o : Rectangle) → j < columns → slice_index_or row (j + 1) None ≡ Some o → o.first.col ≡ j → j + o.size.width < columns + 1
 
 -- in each column, the lines that are left are those from the n-th of the picture on of the owner in row i that begins there
 pub record AreLeft (style : Style) (g : Grid (List ℕ)) (m : SpanMap) (i n : ℕ) (texts : List (List ℕ)) : Type 0 where
-  pub each : (j : ℕ) (o : Rectangle) → j < g.columns → owner g.rows g.columns (entries m) i (j + 1) ≡ Some o → o.0.col ≡ j → (y : ℕ) → slice_index_or (lines_shown (slice_index_or texts j [])) y [] ≡ slice_index_or (lines_shown (text_of_cell g o.0)) (n - top style g (entries m) o.0.row - border Rows style g o.0.row + y) []
+  pub each : (j : ℕ) (o : Rectangle) → j < g.columns → owner g.rows g.columns (rectangles m) i (j + 1) ≡ Some o → o.first.col ≡ j → (y : ℕ) → slice_index_or (lines_shown (slice_index_or texts j [])) y [] ≡ slice_index_or (lines_shown (text_of_cell g o.first)) (n - top style g (rectangles m) o.first.row - border Rows style g o.first.row + y) []
 
 -- the text at a place, if its owner begins there, else another one
 abbrev pub begun : Grid (List ℕ) → Owner → Position → List ℕ → List ℕ
 begun g None p text = text
-begun g (Some o) p text = if same_place o.0 p then text_of_cell g p else text
+begun g (Some o) p text = if same_place o.first p then text_of_cell g p else text

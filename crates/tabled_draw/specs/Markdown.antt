@@ -14,7 +14,8 @@ use Rattle.tabled_grid.specs.Anchors.{is_hidden_in}
 use Rattle.tabled_grid.specs.Entity.{place}
 use Rattle.tabled_grid.specs.Fitting.{fitting}
 use Rattle.tabled_grid.specs.Grid.{Grid, grid_of}
-use Rattle.tabled_grid.specs.Spans.{Rectangle, SpanMap}
+use Rattle.tabled_grid.specs.Spans.{SpanMap, rectangles}
+use Rattle.tabled_grid.specs.declared.config.rectangle.Rectangle.{Rectangle}
 use Rattle.tabled_grid.specs.declared.config.position.Position.{Position}
 
 -- ---- what is written
@@ -45,7 +46,7 @@ rows_apart g es = each g.rows (λ i. row_apart g es i ∷ [])
 
 -- a table as Markdown has it, where the merged cells that fit it hide cells
 abbrev pub apart : Grid (List ℕ) → SpanMap → Grid (List ℕ)
-apart g m = grid_of (rows_apart g (fitting g.rows g.columns (map.entries m)))
+apart g m = grid_of (rows_apart g (fitting g.rows g.columns (rectangles m)))
 
 -- the lines of a table as Markdown
 abbrev pub markdown_lines : List Alignment → Grid (List ℕ) → SpanMap → List (List ℕ)

@@ -1,6 +1,5 @@
 -- What is said of pictures as a whole.
 use Rattle.std.specs.Prelude.{◌≡◌, ◌+◌, ◌-◌, ◌≤◌, if◌then◌else◌, ℕ, Bool, List, max, slice_index_or, slice_set}
-use Rattle.std.specs.FinMap.{entries}
 use Rattle.std.specs.List.{AllByRecursion, fold}
 use Rattle.tabled_draw.specs.Marks.{IsFine, IsNoControl}
 use Rattle.tabled_draw.specs.Picture.{left, picture}
@@ -14,13 +13,14 @@ use Rattle.tabled_grid.specs.declared.records.axis.Axis.TheVariants.{Rows, Colum
 use Rattle.tabled_grid.specs.Axis.{line_of, lines_in}
 use Rattle.tabled_grid.specs.Fitting.{Fits, fitting}
 use Rattle.tabled_grid.specs.Grid.{Grid}
-use Rattle.tabled_grid.specs.Spans.{AreSpanSizes, Rectangle, SpanMap}
+use Rattle.tabled_grid.specs.Spans.{AreSpanSizes, SpanMap, rectangles}
+use Rattle.tabled_grid.specs.declared.config.rectangle.Rectangle.{Rectangle}
 use Rattle.tabled_grid.specs.declared.records.axis.Axis.{Axis}
 
 -- what is said of looks, tables and merged cells holds where these fit their table, and so always of those that are drawn
 pub record HoldsOfPictures (Says : Style → List Alignment → Grid (List ℕ) → List Rectangle → Type 0) : Type 0 where
-  pub where_all_fit : (style : Style) (aligns : List Alignment) (g : Grid (List ℕ)) (m : SpanMap) → Fits m g.rows g.columns → Says style aligns g (entries m)
-  pub of_drawn : (style : Style) (aligns : List Alignment) (g : Grid (List ℕ)) (m : SpanMap) → AreSpanSizes m → Says style aligns g (fitting g.rows g.columns (entries m))
+  pub where_all_fit : (style : Style) (aligns : List Alignment) (g : Grid (List ℕ)) (m : SpanMap) → Fits m g.rows g.columns → Says style aligns g (rectangles m)
+  pub of_drawn : (style : Style) (aligns : List Alignment) (g : Grid (List ℕ)) (m : SpanMap) → AreSpanSizes m → Says style aligns g (fitting g.rows g.columns (rectangles m))
 
 -- no character of a line is a control character
 abbrev pub AreNoControls : List ℕ → Type 0
@@ -36,13 +36,13 @@ drawn_lines style g = total (g.rows + 1) (border Rows style g)
 
 -- a merged cell takes a row, or a column
 abbrev pub takes : Axis → ℕ → Rectangle → Bool
-takes axis k e = is_in_range k (line_of axis e.0) (lines_in axis e.1)
+takes axis k e = is_in_range k (line_of axis e.first) (lines_in axis e.size)
 
 -- what is lacking of a row or column for the text of a merged cell, where the others are as large as their own texts ask
 abbrev pub lacking : Axis → Style → Grid (List ℕ) → List Rectangle → ℕ → Rectangle → ℕ
 lacking axis style g es k e =
     let others = slice_set (own_sizes axis g es) k 0 in
-    asks axis (text_of_cell g e.0) - room axis (border axis style g) others (line_of axis e.0) (lines_in axis e.1)
+    asks axis (text_of_cell g e.first) - room axis (border axis style g) others (line_of axis e.first) (lines_in axis e.size)
 
 -- the most that is asked of a row or column: by texts that are seen in no other, and beside the others by a merged cell
 -- that takes it

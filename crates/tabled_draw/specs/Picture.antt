@@ -1,6 +1,5 @@
 -- The picture of a table: its lines, each a list of characters.
 use Rattle.std.specs.Prelude.{◌+◌, ◌-◌, ◌==◌, ◌||◌, ◌++◌, if◌then◌else◌, ℕ, List, [], ◌∷◌, None, Some, encode_utf8_all, replicate, slice_index_or}
-use Rattle.std.specs.FinMap.{entries}
 use Rattle.std.specs.List.{flat_map}
 use Rattle.tabled_draw.specs.Alignments.{aligned, alignment_in}
 use Rattle.tabled_draw.specs.Borders.{are_none, arms, border, differ, mark}
@@ -13,7 +12,8 @@ use Rattle.tabled_draw.specs.declared.style.Style.{Style}
 use Rattle.tabled_draw.specs.declared.style.TheConstants.Style.{ASCII}
 use Rattle.tabled_grid.specs.Fitting.{fitting}
 use Rattle.tabled_grid.specs.Grid.{Grid}
-use Rattle.tabled_grid.specs.Spans.{Rectangle, SpanMap}
+use Rattle.tabled_grid.specs.Spans.{SpanMap, rectangles}
+use Rattle.tabled_grid.specs.declared.config.rectangle.Rectangle.{Rectangle}
 use Rattle.tabled_grid.specs.declared.records.axis.Axis.TheVariants.{Rows, Columns}
 
 -- the number of lines before the line above a row
@@ -27,12 +27,12 @@ left style g es j = start_of Columns (border Columns style g) (widths style g es
 -- what a cell shows in the n-th line of the picture: its line of text, aligned in its room
 abbrev pub shows : Style → List Alignment → Grid (List ℕ) → List Rectangle → ℕ → Rectangle → List ℕ
 shows style aligns g es n o =
-    aligned (alignment_in aligns o.0.col) (room Columns (border Columns style g) (widths style g es) o.0.col o.1.width) (slice_index_or (lines_shown (text_of_cell g o.0)) (n - top style g es o.0.row - border Rows style g o.0.row) [])
+    aligned (alignment_in aligns o.first.col) (room Columns (border Columns style g) (widths style g es) o.first.col o.size.width) (slice_index_or (lines_shown (text_of_cell g o.first)) (n - top style g es o.first.row - border Rows style g o.first.row) [])
 
 -- the same in a column, if the cell begins there: elsewhere nothing
 abbrev pub shows_in : Style → List Alignment → Grid (List ℕ) → List Rectangle → ℕ → ℕ → Owner → List ℕ
 shows_in style aligns g es n j None = []
-shows_in style aligns g es n j (Some o) = if o.0.col == j then shows style aligns g es n o else []
+shows_in style aligns g es n j (Some o) = if o.first.col == j then shows style aligns g es n o else []
 
 -- at the left edge of a column, in row u or between the rows u and d, which count from 1: nothing where no arm meets
 abbrev pub edge_between : Style → Grid (List ℕ) → List Rectangle → ℕ → ℕ → ℕ → List ℕ
@@ -77,11 +77,11 @@ with_newlines lines = flat_map (λ line. line ++ (10 ∷ [])) lines
 
 -- the characters of the lines of a row, each line with a newline
 abbrev pub row_text : Style → List Alignment → Grid (List ℕ) → SpanMap → ℕ → List ℕ
-row_text style aligns g m i = with_newlines (lines_of_row style aligns g (entries m) i)
+row_text style aligns g m i = with_newlines (lines_of_row style aligns g (rectangles m) i)
 
 -- the characters of a picture, each line with a newline
 abbrev pub picture_text : Style → List Alignment → Grid (List ℕ) → SpanMap → List ℕ
-picture_text style aligns g m = with_newlines (picture style aligns g (entries m))
+picture_text style aligns g m = with_newlines (picture style aligns g (rectangles m))
 
 -- the bytes of the picture of a table with merged cells
 abbrev pub picture_bytes : Style → List Alignment → Grid (List ℕ) → List Rectangle → List ℕ
@@ -89,7 +89,7 @@ picture_bytes style aligns g es = encode_utf8_all (with_newlines (picture style 
 
 -- the bytes of the picture of a table with those of its merged cells that fit it
 unfoldable pub drawn_with : Style → List Alignment → Grid (List ℕ) → SpanMap → List ℕ
-drawn_with style aligns g m = picture_bytes style aligns g (fitting g.rows g.columns (entries m))
+drawn_with style aligns g m = picture_bytes style aligns g (fitting g.rows g.columns (rectangles m))
 
 -- the same in the look that the original crate has by default
 abbrev pub drawn : Grid (List ℕ) → SpanMap → List ℕ

@@ -1,6 +1,5 @@
 -- What is left of the texts in each column, of which a line of the picture takes the first lines.
 use Rattle.std.specs.Prelude.{◌≡◌, ◌≢◌, ◌+◌, ◌<◌, if◌then◌else◌, ℕ, Bool, false, List, [], None, length, map, slice_index_or}
-use Rattle.std.specs.FinMap.{entries}
 use denote.Ref.{Bor}
 use Rattle.tabled_draw.specs.Lines.{AreLeft, begun, drawn_line, left_if, left_of}
 use Rattle.tabled_draw.specs.Owners.{Owner}
@@ -10,7 +9,7 @@ use Rattle.tabled_draw.specs.declared.alignment.Alignment.{Alignment}
 use Rattle.tabled_draw.specs.declared.style.Style.{Style}
 use Rattle.tabled_grid.specs.Entity.{place}
 use Rattle.tabled_grid.specs.Grid.{Grid}
-use Rattle.tabled_grid.specs.Spans.{SpanMap}
+use Rattle.tabled_grid.specs.Spans.{SpanMap, rectangles}
 
 -- the bytes of texts that are lent
 abbrev pub bytes_in : List (Bor (List ℕ)) → List (List ℕ)
@@ -47,4 +46,4 @@ AreBegun g i here old new =
 
 -- in each column, the lines that are left where the line above row i is the next one
 abbrev pub AreLeftAbove : Style → Grid (List ℕ) → SpanMap → ℕ → List (Bor (List ℕ)) → Type 0
-AreLeftAbove style g m i rests = AreLeft style g m i (top style g (entries m) i) (bytes_in rests)
+AreLeftAbove style g m i rests = AreLeft style g m i (top style g (rectangles m) i) (bytes_in rests)

@@ -14,7 +14,7 @@ use Rattle.tabled_grid.specs.Grid.{Grid, cell_at}
 use Rattle.tabled_grid.specs.declared.config.position.Position.{Position}
 use Rattle.tabled_grid.specs.declared.records.axis.Axis.{Axis}
 use Rattle.tabled_grid.specs.declared.records.axis.Axis.TheVariants.{Rows, Columns}
-use Rattle.tabled_grid.specs.Spans.{Rectangle}
+use Rattle.tabled_grid.specs.declared.config.rectangle.Rectangle.{Rectangle}
 
 -- what stands beside a text: a blank before it and one after it, and nothing above and below
 abbrev pub pad : Axis → ℕ
@@ -50,11 +50,11 @@ grown_sizes axis lines sizes at n need =
 
 -- the sizes, grown by what the text of a merged cell asks
 abbrev pub grown_for : Axis → Style → Grid (List ℕ) → List ℕ → Rectangle → List ℕ
-grown_for axis style g sizes e = grown_sizes axis (border axis style g) sizes (line_of axis e.0) (lines_in axis e.1) (asks axis (text_of_cell g e.0))
+grown_for axis style g sizes e = grown_sizes axis (border axis style g) sizes (line_of axis e.first) (lines_in axis e.size) (asks axis (text_of_cell g e.first))
 
 -- what the text at a place asks of its row or column, if its owner begins there and lies in no other
 abbrev pub own_of : Axis → Grid (List ℕ) → Rectangle → Position → ℕ
-own_of axis g o p = if same_place o.0 p && (lines_in axis o.1 == 1) then asks axis (text_of_cell g p) else 0
+own_of axis g o p = if same_place o.first p && (lines_in axis o.size == 1) then asks axis (text_of_cell g p) else 0
 
 -- the same, by the merged cells
 abbrev pub own : Axis → Grid (List ℕ) → List Rectangle → Position → ℕ
@@ -67,7 +67,7 @@ own_sizes axis g es = each (count_along axis g) (λ k. largest (count_along (acr
 -- the merged cells in the order in which rows or columns grow for them: those that take the fewest come first, of these
 -- those that begin first
 abbrev pub in_order : Axis → Grid (List ℕ) → List Rectangle → List Rectangle
-in_order axis g es = by_number (λ e. lines_in axis e.1) (count_along axis g + 1) (by_number (λ e. line_of axis e.0) (count_along axis g) es)
+in_order axis g es = by_number (λ e. lines_in axis e.size) (count_along axis g + 1) (by_number (λ e. line_of axis e.first) (count_along axis g) es)
 
 -- the heights of rows or the widths of columns: these, grown by one merged cell after another
 unfoldable pub sizes : Axis → Style → Grid (List ℕ) → List Rectangle → List ℕ

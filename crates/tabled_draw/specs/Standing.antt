@@ -17,7 +17,7 @@ use Rattle.tabled_grid.specs.Anchors.{is_hidden_in}
 use Rattle.tabled_grid.specs.Entity.{place}
 use Rattle.tabled_grid.specs.Grid.{Grid, IsInside}
 use Rattle.tabled_grid.specs.declared.config.position.Position.{Position}
-use Rattle.tabled_grid.specs.Spans.{Rectangle}
+use Rattle.tabled_grid.specs.declared.config.rectangle.Rectangle.{Rectangle}
 
 -- characters stand in a line, after some columns
 pub record StandsIn (line : List ℕ) (columns : ℕ) (text : List ℕ) : Type 0 where
@@ -40,11 +40,11 @@ pub record IsSeen (g : Grid (List ℕ)) (es : List Rectangle) (p : Position) : T
 
 -- the number of lines between a cell's upper and lower border
 abbrev pub inner_height : Style → Grid (List ℕ) → List Rectangle → Position → ℕ
-inner_height style g es p = top style g es (p.row + (owner_in es p).1.height) - top style g es p.row - border Rows style g p.row
+inner_height style g es p = top style g es (p.row + (owner_in es p).size.height) - top style g es p.row - border Rows style g p.row
 
 -- the number of columns between a cell's left and right border
 abbrev pub inner_width : Style → Grid (List ℕ) → List Rectangle → Position → ℕ
-inner_width style g es p = left style g es (p.col + (owner_in es p).1.width) - left style g es p.col - border Columns style g p.col
+inner_width style g es p = left style g es (p.col + (owner_in es p).size.width) - left style g es p.col - border Columns style g p.col
 
 -- the line below the line above a cell, or that line itself where it is not drawn
 abbrev pub inner_top : Style → Grid (List ℕ) → List Rectangle → Position → ℕ
@@ -84,7 +84,7 @@ pub record ShowsTexts (style : Style) (aligns : List Alignment) (g : Grid (List 
   pub whole : (p : Position) → IsSeen g es p → (k : ℕ) → k < length (lines_shown (text_of_cell g p))
       → StandsAt (picture style aligns g es) (inner_top style g es p + k) (inner_left style g es p + 1 + indent_of style aligns g es p k) (text_line g p k)
   pub alone : (p : Position) → IsSeen g es p → (k : ℕ) → k < inner_height style g es p
-      → StandsFramed (picture style aligns g es) (inner_top style g es p + k) (left style g es p.col) (border Columns style g p.col) (border Columns style g (p.col + (owner_in es p).1.width)) (inner_line style aligns g es p k)
+      → StandsFramed (picture style aligns g es) (inner_top style g es p + k) (left style g es p.col) (border Columns style g p.col) (border Columns style g (p.col + (owner_in es p).size.width)) (inner_line style aligns g es p k)
   pub high : (p : Position) → IsSeen g es p → length (lines_shown (text_of_cell g p)) ≤ inner_height style g es p
   pub wide : (p : Position) → IsSeen g es p → (k : ℕ) → text_width (text_line g p k) + pad Columns ≤ inner_width style g es p
 
@@ -106,15 +106,15 @@ is_amid k at n = nat_lt at k && nat_lt k (at + n)
 
 -- in row i, one merged cell lies at both sides of the left edge of column j
 abbrev pub is_joined_beside : List Rectangle → ℕ → ℕ → Bool
-is_joined_beside es i j = list_any (λ (e : Rectangle). is_in_range i e.0.row e.1.height && is_amid j e.0.col e.1.width) es
+is_joined_beside es i j = list_any (λ (e : Rectangle). is_in_range i e.first.row e.size.height && is_amid j e.first.col e.size.width) es
 
 -- in column j, one merged cell lies above and below the upper edge of row i
 abbrev pub is_joined_above : List Rectangle → ℕ → ℕ → Bool
-is_joined_above es i j = list_any (λ (e : Rectangle). is_amid i e.0.row e.1.height && is_in_range j e.0.col e.1.width) es
+is_joined_above es i j = list_any (λ (e : Rectangle). is_amid i e.first.row e.size.height && is_in_range j e.first.col e.size.width) es
 
 -- one merged cell lies all round the upper left corner of row i and column j
 abbrev pub is_joined_around : List Rectangle → ℕ → ℕ → Bool
-is_joined_around es i j = list_any (λ (e : Rectangle). is_amid i e.0.row e.1.height && is_amid j e.0.col e.1.width) es
+is_joined_around es i j = list_any (λ (e : Rectangle). is_amid i e.first.row e.size.height && is_amid j e.first.col e.size.width) es
 
 -- the arms that meet at the upper left corner of row i and column j: there is one wherever a border is that ends there
 abbrev pub meeting : Grid (List ℕ) → List Rectangle → ℕ → ℕ → Arms

@@ -78,7 +78,7 @@ pub(crate) fn differ(a: Owner, b: Owner) -> bool
     ensures { result ≡ differ a b }
 {
     match (a, b) {
-        (Some(a), Some(b)) => !(a.0.col == b.0.col && a.0.row == b.0.row),
+        (Some(a), Some(b)) => !(a.first.col == b.first.col && a.first.row == b.first.row),
         (None, None) => false,
         _ => true,
     }

@@ -1,7 +1,6 @@
 //! Tables that are laid out.
 
 ghost use Rattle.std.specs.Prelude.{◌≡◌, ◌+◌, ◌<◌, IfOk, IsTrue, OnOk, length, slice_index_or};
-ghost use Rattle.std.specs.FinMap.{entries};
 ghost use Rattle.tabled_draw.specs.Bands.{HasRoom, IsBand, IsSheet};
 ghost use Rattle.tabled_draw.specs.Borders.{is_drawn};
 ghost use Rattle.tabled_draw.specs.Laid.{AreEdges, IsLaidOut};
@@ -13,7 +12,7 @@ ghost use Rattle.tabled_draw.specs.Sent.{Draws};
 ghost use Rattle.tabled_draw.specs.Sizes.{heights};
 ghost use Rattle.tabled_grid.specs.Grid.{IsInside, map_grid};
 ghost use Rattle.tabled_grid.specs.Fitting.{Fits};
-ghost use Rattle.tabled_grid.specs.Spans.{AreSpanSizes};
+ghost use Rattle.tabled_grid.specs.Spans.{AreSpanSizes, rectangles};
 
 use crate::band::Band;
 use crate::borders::is_drawn;
@@ -28,7 +27,7 @@ use std::alloc::{AllocError, Global};
 use std::io::{self, Write};
 use std::marker::Model;
 use std::mem;
-use tabled_grid::config::{Position, SpannedConfig};
+use tabled_grid::config::{Position, Rectangle, SpannedConfig};
 use tabled_grid::records::{CellText, ExactRecords, PeekableRecords, Records};
 use tabled_held::Held;
 
@@ -61,14 +60,14 @@ where
     R::Cell: CellText,
 {
     ghost use Rattle.std.specs.Prelude.{ℕ, List};
-    ghost use Rattle.std.specs.FinMap.{entries};
     ghost use Rattle.tabled_draw.specs.Picture.{picture_bytes};
     ghost use Rattle.tabled_draw.specs.Laid.{IsLaidOut};
+    ghost use Rattle.tabled_grid.specs.Spans.{rectangles};
     ghost use Rattle.tabled_grid.specs.Grid.{map_grid};
 
     ghost Value = { List ℕ };
 
-    ghost view = { λ a. picture_bytes a.look.style a.look.alignments.now (map_grid R.Cell.text_of (R.grid a.records.now)) (entries a.spans) };
+    ghost view = { λ a. picture_bytes a.look.style a.look.alignments.now (map_grid R.Cell.text_of (R.grid a.records.now)) (rectangles a.spans) };
 
     ghost invariant = { λ a. R.is_well_formed a.records.now × IsLaidOut a.look.style (map_grid R.Cell.text_of (R.grid a.records.now)) a.spans a.layout.edges.items a.layout.heights.items a.layout.above.items a.layout.here.items a.rests.items a.level.items a.between.items a.held };
 }
@@ -317,7 +316,7 @@ where
     ensures { result.now ≡ begun (map_grid R.Cell.text_of (R.grid records.now)) owner pos other.now }
 {
     match owner {
-        Some((at, _)) if at == pos => records.get_text(pos),
+        Some(Rectangle { first, .. }) if first == pos => records.get_text(pos),
         _ => other,
     }
 }

@@ -1,7 +1,6 @@
 //! Rows and columns that grow for the texts of merged cells.
 
 ghost use Rattle.std.specs.Prelude.{◌≡◌, ◌+◌, ◌<◌, ◌≤◌, ℕ, IfOk, OnOk, length};
-ghost use Rattle.std.specs.FinMap.{entries};
 ghost use Rattle.std.specs.List.{AllByRecursion, fold};
 ghost use Rattle.tabled_draw.specs.Each.{by_number};
 ghost use Rattle.tabled_draw.specs.Sizes.{grown_sizes, grown_for, in_order, room};
@@ -10,7 +9,8 @@ ghost use Rattle.tabled_grid.specs.Along.{count_along};
 ghost use Rattle.tabled_grid.specs.Axis.{line_of, lines_in};
 ghost use Rattle.tabled_grid.specs.Grid.{map_grid};
 ghost use Rattle.tabled_grid.specs.Fitting.{Fits};
-ghost use Rattle.tabled_grid.specs.Spans.{Rectangle};
+ghost use Rattle.tabled_grid.specs.Spans.{rectangles};
+ghost use Rattle.tabled_grid.specs.declared.config.rectangle.Rectangle.{Rectangle};
 
 use crate::borders::{line_size, lines_around, pad};
 use crate::style::{Lines, Style};
@@ -35,16 +35,16 @@ where
     requires fits { Fits spans.now ((R.grid records.now).rows) ((R.grid records.now).columns) }
     requires long { length sizes.old.items ≡ count_along axis (R.grid records.now) }
     ensures long { OnOk result (length sizes.new.items ≡ count_along axis (R.grid records.now)) }
-    ensures grown { OnOk result (sizes.new.items ≡ fold (grown_for axis style.now (map_grid R.Cell.text_of (R.grid records.now))) sizes.old.items (in_order axis (map_grid R.Cell.text_of (R.grid records.now)) (entries spans.now))) }
+    ensures grown { OnOk result (sizes.new.items ≡ fold (grown_for axis style.now (map_grid R.Cell.text_of (R.grid records.now))) sizes.old.items (in_order axis (map_grid R.Cell.text_of (R.grid records.now)) (rectangles spans.now))) }
 {
     let rectangles = put_in_order(alloc, spans.anchors(), axis)?;
     let order = rectangles.as_slice();
     let lines = lines_around(axis, style);
     for k in 0..order.len() {
-        let (at, size) = order[k];
-        let need = axis.lines_in(asked(records.get_text(at)));
-        let first = axis.line_of(at);
-        grow(sizes, axis, lines, first, axis.lines_in(size), need)?;
+        let Rectangle { first, size } = order[k];
+        let need = axis.lines_in(asked(records.get_text(first)));
+        let line = axis.line_of(first);
+        grow(sizes, axis, lines, line, axis.lines_in(size), need)?;
     }
     Ok(())
 }
@@ -55,11 +55,11 @@ fn put_in_order(
     rectangles: &[Rectangle],
     axis: Axis,
 ) -> Result<Vec<Rectangle>, AllocError>
-    ensures ordered { IfOk result (λ order. (m n : ℕ) → AllByRecursion (λ (e : Rectangle). (lines_in axis e.1 < m) × (line_of axis e.0 < n)) rectangles.now → order.items ≡ by_number (λ e. lines_in axis e.1) m (by_number (λ e. line_of axis e.0) n rectangles.now)) }
+    ensures ordered { IfOk result (λ order. (m n : ℕ) → AllByRecursion (λ (e : Rectangle). (lines_in axis e.size < m) × (line_of axis e.first < n)) rectangles.now → order.items ≡ by_number (λ e. lines_in axis e.size) m (by_number (λ e. line_of axis e.first) n rectangles.now)) }
 {
     let mut order = Vec::from_slice(alloc, rectangles)?;
-    order.sort_by_key(|rectangle| axis.line_of(rectangle.0))?;
-    order.sort_by_key(|rectangle| axis.lines_in(rectangle.1))?;
+    order.sort_by_key(|rectangle| axis.line_of(rectangle.first))?;
+    order.sort_by_key(|rectangle| axis.lines_in(rectangle.size))?;
     Ok(order)
 }
 

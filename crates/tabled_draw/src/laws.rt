@@ -1,7 +1,6 @@
 //! Laws of pictures. Each is the contract of a function that does nothing.
 
 ghost use Rattle.std.specs.Prelude.{◌≡◌, ◌+◌, ◌⊎◌, ℕ, List, Some, [], encode_utf8_all, length, map};
-ghost use Rattle.std.specs.FinMap.{entries};
 ghost use Rattle.std.specs.List.{AllByRecursion, sum};
 ghost use Rattle.tabled_draw.specs.Markdown.{escaped, markdown, markdown_lines, read_cell};
 ghost use Rattle.tabled_draw.specs.Marks.{IsFine};
@@ -16,7 +15,8 @@ ghost use Rattle.tabled_draw.specs.declared.style.TheConstants.Style.{ASCII, ASC
 ghost use Rattle.tabled_grid.specs.Entity.{place};
 ghost use Rattle.tabled_grid.specs.Fitting.{Fits, fitting, keep_fitting};
 ghost use Rattle.tabled_grid.specs.Grid.{Grid, IsInside};
-ghost use Rattle.tabled_grid.specs.Spans.{AreSpanSizes, Rectangle, SpanMap};
+ghost use Rattle.tabled_grid.specs.Spans.{AreSpanSizes, SpanMap, rectangles};
+ghost use Rattle.tabled_grid.specs.declared.config.rectangle.Rectangle.{Rectangle};
 
 pub use crate::width::lines_take_the_width_of_their_picture;
 
@@ -91,12 +91,12 @@ pub fn borders_are_plain_by_default()
 
 /// Of two tables of a shape whose texts differ only where merged cells hide them, the pictures are the same.
 pub fn hidden_texts_do_not_matter()
-    ensures { (style : Style) (aligns : List Alignment) (g h : Grid (List ℕ)) (m : SpanMap) → AreSpanSizes m → AreSeenAlike g h (fitting g.rows g.columns (entries m)) → drawn_with style aligns g m ≡ drawn_with style aligns h m }
+    ensures { (style : Style) (aligns : List Alignment) (g h : Grid (List ℕ)) (m : SpanMap) → AreSpanSizes m → AreSeenAlike g h (fitting g.rows g.columns (rectangles m)) → drawn_with style aligns g m ≡ drawn_with style aligns h m }
 {}
 
 /// Where all merged cells fit their table, the picture is that with all; where some don't, that without these.
 pub fn misfits_leave_no_trace()
-    ensures all { (style : Style) (aligns : List Alignment) (g : Grid (List ℕ)) (m : SpanMap) → Fits m g.rows g.columns → drawn_with style aligns g m ≡ picture_bytes style aligns g (entries m) }
+    ensures all { (style : Style) (aligns : List Alignment) (g : Grid (List ℕ)) (m : SpanMap) → Fits m g.rows g.columns → drawn_with style aligns g m ≡ picture_bytes style aligns g (rectangles m) }
     ensures some { (style : Style) (aligns : List Alignment) (g : Grid (List ℕ)) (m : SpanMap) → AreSpanSizes m → drawn_with style aligns g m ≡ drawn_with style aligns g (keep_fitting g.rows g.columns m) }
 {}
 

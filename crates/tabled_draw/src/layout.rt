@@ -1,7 +1,7 @@
 //! How wide columns and how high rows are.
 
 ghost use Rattle.std.specs.Prelude.{◌≡◌, ◌+◌, ◌<◌, ℕ, IfOk, length, slice_index_or};
-ghost use Rattle.std.specs.FinMap.{entries};
+ghost use Rattle.tabled_grid.specs.Spans.{rectangles};
 ghost use Rattle.tabled_draw.specs.Borders.{line_size};
 ghost use Rattle.tabled_draw.specs.Laid.{AreEdges};
 ghost use Rattle.tabled_draw.specs.Measured.{Measured, raised};
@@ -18,7 +18,7 @@ use crate::style::{Lines, Style};
 use crate::texts::asked;
 use std::alloc::{AllocError, Global};
 use std::mem;
-use tabled_grid::config::{Position, SpannedConfig};
+use tabled_grid::config::{Position, Rectangle, SpannedConfig};
 use tabled_grid::records::{Axis, CellText, ExactRecords, PeekableRecords, Records};
 
 /// Where columns and rows lie, and room for the owners of the places of two rows.
@@ -45,7 +45,7 @@ where
     requires well { R.is_well_formed records.now }
     requires fits { Fits spans.now ((R.grid records.now).rows) ((R.grid records.now).columns) }
     ensures edges { IfOk result (λ layout. AreEdges style.now (map_grid R.Cell.text_of (R.grid records.now)) spans.now layout.edges.items) }
-    ensures heights { IfOk result (λ layout. layout.heights.items ≡ heights style.now (map_grid R.Cell.text_of (R.grid records.now)) (entries spans.now)) }
+    ensures heights { IfOk result (λ layout. layout.heights.items ≡ heights style.now (map_grid R.Cell.text_of (R.grid records.now)) (rectangles spans.now)) }
     ensures above { IfOk result (λ layout. length layout.above.items ≡ (R.grid records.now).columns + 2) }
     ensures here { IfOk result (λ layout. length layout.here.items ≡ (R.grid records.now).columns + 2) }
 {
@@ -88,12 +88,12 @@ where
     requires fits { Fits spans.now ((R.grid records.now).rows) ((R.grid records.now).columns) }
     requires above { length above.old.items ≡ (R.grid records.now).columns + 2 }
     requires here { length here.old.items ≡ (R.grid records.now).columns + 2 }
-    requires widths { Measured Columns (map_grid R.Cell.text_of (R.grid records.now)) (entries spans.now) 0 0 widths.old.items }
-    requires heights { Measured Rows (map_grid R.Cell.text_of (R.grid records.now)) (entries spans.now) 0 0 heights.old.items }
+    requires widths { Measured Columns (map_grid R.Cell.text_of (R.grid records.now)) (rectangles spans.now) 0 0 widths.old.items }
+    requires heights { Measured Rows (map_grid R.Cell.text_of (R.grid records.now)) (rectangles spans.now) 0 0 heights.old.items }
     ensures above { length above.new.items ≡ (R.grid records.now).columns + 2 }
     ensures here { length here.new.items ≡ (R.grid records.now).columns + 2 }
-    ensures widths { widths.new.items ≡ own_sizes Columns (map_grid R.Cell.text_of (R.grid records.now)) (entries spans.now) }
-    ensures heights { heights.new.items ≡ own_sizes Rows (map_grid R.Cell.text_of (R.grid records.now)) (entries spans.now) }
+    ensures widths { widths.new.items ≡ own_sizes Columns (map_grid R.Cell.text_of (R.grid records.now)) (rectangles spans.now) }
+    ensures heights { heights.new.items ≡ own_sizes Rows (map_grid R.Cell.text_of (R.grid records.now)) (rectangles spans.now) }
 {
     clear(above);
     let mut next = 0;
@@ -119,10 +119,10 @@ where
     requires well { R.is_well_formed records.now }
     requires row { i < (R.grid records.now).rows }
     requires here { IsOwnerRow ((R.grid records.now).rows) ((R.grid records.now).columns) spans.now (i + 1) here.now.items }
-    requires widths { Measured Columns (map_grid R.Cell.text_of (R.grid records.now)) (entries spans.now) i 0 widths.old.items }
-    requires heights { Measured Rows (map_grid R.Cell.text_of (R.grid records.now)) (entries spans.now) i 0 heights.old.items }
-    ensures widths { Measured Columns (map_grid R.Cell.text_of (R.grid records.now)) (entries spans.now) (i + 1) 0 widths.new.items }
-    ensures heights { Measured Rows (map_grid R.Cell.text_of (R.grid records.now)) (entries spans.now) (i + 1) 0 heights.new.items }
+    requires widths { Measured Columns (map_grid R.Cell.text_of (R.grid records.now)) (rectangles spans.now) i 0 widths.old.items }
+    requires heights { Measured Rows (map_grid R.Cell.text_of (R.grid records.now)) (rectangles spans.now) i 0 heights.old.items }
+    ensures widths { Measured Columns (map_grid R.Cell.text_of (R.grid records.now)) (rectangles spans.now) (i + 1) 0 widths.new.items }
+    ensures heights { Measured Rows (map_grid R.Cell.text_of (R.grid records.now)) (rectangles spans.now) (i + 1) 0 heights.new.items }
 {
     for j in 0..records.count_columns() {
         let pos = Position { row: i, col: j };
@@ -149,8 +149,8 @@ where
     ensures widths { widths.new.items ≡ raised Columns (map_grid R.Cell.text_of (R.grid records.now)) widths.old.items owner pos }
     ensures heights { heights.new.items ≡ raised Rows (map_grid R.Cell.text_of (R.grid records.now)) heights.old.items owner pos }
 {
-    if let Some((at, size)) = owner
-        && at == pos
+    if let Some(Rectangle { first, size }) = owner
+        && first == pos
     {
         let need = asked(records.get_text(pos));
         if size.width == 1 {

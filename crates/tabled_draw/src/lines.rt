@@ -5,7 +5,7 @@ ghost use Rattle.tabled_draw.specs.Borders.{differ};
 ghost use Rattle.tabled_draw.specs.Lines.{EndInside, IsBetween, column_if, edge, left_inside, level, marked, text_inside, unmerged_line};
 ghost use Rattle.tabled_draw.specs.Rests.{AreCut, IsCutAt, bytes_in, line_of_rests};
 ghost use Rattle.tabled_draw.specs.Sent.{Draws};
-ghost use Rattle.tabled_grid.specs.Spans.{Rectangle};
+ghost use Rattle.tabled_grid.specs.declared.config.rectangle.Rectangle.{Rectangle};
 
 use crate::alignment::alignment_in;
 use crate::borders::{corner, differ, is_drawn, is_drawn_after, pad, size_if};
@@ -15,7 +15,7 @@ use crate::sheet::Sheet;
 use crate::texts::write_cell;
 use std::alloc::{AllocError, Global};
 use std::io::{self, Write};
-use tabled_grid::config::Size;
+use tabled_grid::config::Rectangle;
 use tabled_grid::records::Axis;
 use tabled_held::Held;
 
@@ -257,7 +257,7 @@ fn write_column<W: Write>(
     owner: Owner,
     rests: &mut Vec<&str>,
 )
-    requires end { (o : Rectangle) → owner ≡ Some o → o.0.col ≡ j → j + o.1.width < length sheet.now.edges.now }
+    requires end { (o : Rectangle) → owner ≡ Some o → o.first.col ≡ j → j + o.size.width < length sheet.now.edges.now }
     requires col { j + 1 < length sheet.now.edges.now }
     requires rest { j < length rests.old.items }
     ensures draws { Draws (W.contents writer.old) held.old (W.contents writer.new) held.new (column_if sheet.now.look.style sheet.now.look.alignments.now drawn apart sheet.now.edges.now j owner (slice_index_or (bytes_in rests.old.items) j [])) }
@@ -299,7 +299,7 @@ fn write_crossing<W: Write>(
     owner: Owner,
     rests: &mut Vec<&str>,
 )
-    requires end { (o : Rectangle) → owner ≡ Some o → o.0.col ≡ j → j + o.1.width < length sheet.now.edges.now }
+    requires end { (o : Rectangle) → owner ≡ Some o → o.first.col ≡ j → j + o.size.width < length sheet.now.edges.now }
     requires col { j < length sheet.now.edges.now }
     requires rest { j < length rests.old.items }
     ensures draws { Draws (W.contents writer.old) held.old (W.contents writer.new) held.new (text_inside sheet.now.look.alignments.now drawn sheet.now.edges.now j owner (slice_index_or (bytes_in rests.old.items) j [])) }
@@ -319,14 +319,14 @@ fn write_inside<'a, W: Write>(
     owner: Owner,
     rest: &'a str,
 ) -> &'a str
-    requires end { (o : Rectangle) → owner ≡ Some o → o.0.col ≡ j → j + o.1.width < length sheet.now.edges.now }
+    requires end { (o : Rectangle) → owner ≡ Some o → o.first.col ≡ j → j + o.size.width < length sheet.now.edges.now }
     requires col { j < length sheet.now.edges.now }
     ensures draws { Draws (W.contents writer.old) held.old (W.contents writer.new) held.new (text_inside sheet.now.look.alignments.now drawn sheet.now.edges.now j owner rest.now) }
     ensures rest { result.now ≡ left_inside j owner rest.now }
 {
     match owner {
-        Some((at, Size { width, .. })) if at.col == j => {
-            let room = sheet.edges[j + width]
+        Some(Rectangle { first, size }) if first.col == j => {
+            let room = sheet.edges[j + size.width]
                 .saturating_sub(sheet.edges[j])
                 .saturating_sub(size_if(drawn) + pad(Axis::Columns));
             write_cell(

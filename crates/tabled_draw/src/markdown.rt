@@ -1,7 +1,6 @@
 //! Tables as Markdown.
 
 ghost use Rattle.std.specs.Prelude.{◌≡◌, ◌++◌, ◌<◌, IfOk, IsTrue, OnOk, encode_utf8, length, map};
-ghost use Rattle.std.specs.FinMap.{entries};
 ghost use Rattle.std.specs.Io.KnownBytes.{Appends};
 ghost use Rattle.std.specs.List.{flat_map};
 ghost use Rattle.std.specs.String.{string_bytes};
@@ -10,7 +9,7 @@ ghost use Rattle.tabled_grid.specs.Covers.{cover_of};
 ghost use Rattle.tabled_grid.specs.Entity.{place};
 ghost use Rattle.tabled_grid.specs.Evenness.{AreWide};
 ghost use Rattle.tabled_grid.specs.Grid.{IsEven, IsInside, grid_of, map_grid, map_items};
-ghost use Rattle.tabled_grid.specs.Spans.{AreSpanSizes, SpanMap};
+ghost use Rattle.tabled_grid.specs.Spans.{AreSpanSizes, SpanMap, rectangles};
 
 use crate::alignment::Alignment;
 use crate::drawing::Drawing;
@@ -90,7 +89,7 @@ where
     requires rows { cover.now.rows ≡ (R.grid records.now).rows }
     requires columns { cover.now.columns ≡ (R.grid records.now).columns }
     ensures wide { IfOk result (λ texts. AreWide (R.grid records.now).columns (map_items texts.items)) }
-    ensures texts { IfOk result (λ texts. (m : SpanMap) → cover.now ≡ cover_of m (R.grid records.now).rows (R.grid records.now).columns → map (map string_bytes) (map_items texts.items) ≡ rows_apart (map_grid R.Cell.text_of (R.grid records.now)) (entries m)) }
+    ensures texts { IfOk result (λ texts. (m : SpanMap) → cover.now ≡ cover_of m (R.grid records.now).rows (R.grid records.now).columns → map (map string_bytes) (map_items texts.items) ≡ rows_apart (map_grid R.Cell.text_of (R.grid records.now)) (rectangles m)) }
 {
     let mut texts = Vec::new(alloc);
     for i in 0..records.count_rows() {
@@ -115,7 +114,7 @@ where
     requires rows { cover.now.rows ≡ (R.grid records.now).rows }
     requires columns { cover.now.columns ≡ (R.grid records.now).columns }
     ensures long { IfOk result (λ row. length row.items ≡ (R.grid records.now).columns) }
-    ensures texts { IfOk result (λ row. (m : SpanMap) → cover.now ≡ cover_of m (R.grid records.now).rows (R.grid records.now).columns → map string_bytes row.items ≡ row_apart (map_grid R.Cell.text_of (R.grid records.now)) (entries m) i) }
+    ensures texts { IfOk result (λ row. (m : SpanMap) → cover.now ≡ cover_of m (R.grid records.now).rows (R.grid records.now).columns → map string_bytes row.items ≡ row_apart (map_grid R.Cell.text_of (R.grid records.now)) (rectangles m) i) }
 {
     let mut row = Vec::new(alloc);
     for j in 0..records.count_columns() {
@@ -139,7 +138,7 @@ where
     requires first { cover.now.first ≡ place 0 0 }
     requires rows { cover.now.rows ≡ (R.grid records.now).rows }
     requires columns { cover.now.columns ≡ (R.grid records.now).columns }
-    ensures { IfOk result (λ text. (m : SpanMap) → cover.now ≡ cover_of m (R.grid records.now).rows (R.grid records.now).columns → string_bytes text ≡ cell_apart (map_grid R.Cell.text_of (R.grid records.now)) (entries m) pos) }
+    ensures { IfOk result (λ text. (m : SpanMap) → cover.now ≡ cover_of m (R.grid records.now).rows (R.grid records.now).columns → string_bytes text ≡ cell_apart (map_grid R.Cell.text_of (R.grid records.now)) (rectangles m) pos) }
 {
     if cover.is_hidden(pos) {
         return Ok(String::new(alloc));

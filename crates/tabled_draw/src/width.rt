@@ -1,7 +1,6 @@
 //! How wide pictures are.
 
 ghost use Rattle.std.specs.Prelude.{◌≡◌, ℕ, IfOk, List};
-ghost use Rattle.std.specs.FinMap.{entries};
 ghost use Rattle.std.specs.List.{AllByRecursion};
 ghost use Rattle.tabled_draw.specs.Marks.{IsFine};
 ghost use Rattle.tabled_draw.specs.Picture.{picture};
@@ -11,7 +10,7 @@ ghost use Rattle.tabled_draw.specs.declared.alignment.Alignment.{Alignment};
 ghost use Rattle.tabled_draw.specs.declared.style.Style.{Style};
 ghost use Rattle.tabled_grid.specs.Fitting.{fitting};
 ghost use Rattle.tabled_grid.specs.Grid.{Grid, map_grid};
-ghost use Rattle.tabled_grid.specs.Spans.{AreSpanSizes, SpanMap};
+ghost use Rattle.tabled_grid.specs.Spans.{AreSpanSizes, SpanMap, rectangles};
 
 use crate::borders::line_size;
 use crate::layout::layout_of;
@@ -53,5 +52,5 @@ where
 /// Each line of a picture takes as many columns as `picture_width` says, where no character of the style takes more than
 /// one.
 pub fn lines_take_the_width_of_their_picture()
-    ensures { (style : Style) (aligns : List Alignment) (g : Grid (List ℕ)) (m : SpanMap) → AreSpanSizes m → IsFine style → AllByRecursion (λ line. text_width line ≡ picture_width style g m) (picture style aligns g (fitting g.rows g.columns (entries m))) }
+    ensures { (style : Style) (aligns : List Alignment) (g : Grid (List ℕ)) (m : SpanMap) → AreSpanSizes m → IsFine style → AllByRecursion (λ line. text_width line ≡ picture_width style g m) (picture style aligns g (fitting g.rows g.columns (rectangles m))) }
 {}

@@ -1,5 +1,5 @@
 use Rattle.std.specs.String.{string_bytes}
-use Rattle.tabled_draw.proofs.Common.{[], ◌∙◌, ◌∷◌, ◌≡◌, ap, arith, each, entries, map_grid}
+use Rattle.tabled_draw.proofs.Common.{[], ◌∙◌, ◌∷◌, ◌≡◌, ap, arith, each, rectangles, map_grid}
 use Rattle.tabled_draw.proofs.Singly.{row-more, wide-more}
 use Rattle.tabled_draw.specs.Markdown.{row_apart}
 use Rattle.tabled_draw.proofs.markdown.all_texts.Goals as goal
@@ -11,11 +11,11 @@ loop-i-preserved g c =
     let row = c.in_ok-row_texts.field-0 in
     record {
       wide = rw c.in_ok-push.ensures.items (wide-more old row t.columns c.loop-i.invariant.wide c.in_ok-row_texts.ensures.long);
-      texts = λ m is. rw c.in_ok-push.ensures.items (row-more string_bytes old row c.loop-i.i (row_apart t (entries m)) (c.loop-i.invariant.texts m is) (c.in_ok-row_texts.ensures.texts m is));
+      texts = λ m is. rw c.in_ok-push.ensures.items (row-more string_bytes old row c.loop-i.i (row_apart t (rectangles m)) (c.loop-i.invariant.texts m is) (c.in_ok-row_texts.ensures.texts m is));
     }
 
 pub returns-clause-texts : goal.returns-clause-texts
 returns-clause-texts g c = λ m is.
     let t = map_grid g.R.Cell.CellText.text_of (g.R.GridStore.grid c.args.records.now) in
     let end : c.loop-i.i ≡ t.rows = omega (arith, c.loop-i-test.false, c.loop-i.auto.i-end, c.count_rows-i-end.ensures.rows) in
-    c.loop-i.invariant.texts m is ∙ ap (λ n. each n (λ i. row_apart t (entries m) i ∷ [])) end
+    c.loop-i.invariant.texts m is ∙ ap (λ n. each n (λ i. row_apart t (rectangles m) i ∷ [])) end

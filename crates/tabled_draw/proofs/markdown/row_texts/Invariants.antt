@@ -1,5 +1,5 @@
 use Rattle.std.specs.String.{string_bytes}
-use Rattle.tabled_draw.proofs.Common.{[], ◌∷◌, ◌≡◌, SpanMap, each, entries, length, map, map_grid, place}
+use Rattle.tabled_draw.proofs.Common.{[], ◌∷◌, ◌≡◌, SpanMap, each, rectangles, length, map, map_grid, place}
 use Rattle.tabled_draw.specs.Markdown.{cell_apart}
 use Rattle.tabled_grid.specs.Covers.{cover_of}
 use Rattle.tabled_draw.proofs.markdown.row_texts.Given as goal
@@ -7,5 +7,5 @@ use Rattle.tabled_draw.proofs.markdown.row_texts.Given as goal
 abbrev pub invariant-loop-j : goal.invariant-loop-j
 invariant-loop-j g l = record {
   long : length l.row.items ≡ l.j;
-  texts : (m : SpanMap) → l.cover ≡ cover_of m (g.R.GridStore.grid l.records).rows (g.R.GridStore.grid l.records).columns → map string_bytes l.row.items ≡ each l.j (λ j. cell_apart (map_grid g.R.Cell.CellText.text_of (g.R.GridStore.grid l.records)) (entries m) (place l.i j) ∷ []);
+  texts : (m : SpanMap) → l.cover ≡ cover_of m (g.R.GridStore.grid l.records).rows (g.R.GridStore.grid l.records).columns → map string_bytes l.row.items ≡ each l.j (λ j. cell_apart (map_grid g.R.Cell.CellText.text_of (g.R.GridStore.grid l.records)) (rectangles m) (place l.i j) ∷ []);
 }

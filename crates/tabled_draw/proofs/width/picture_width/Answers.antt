@@ -1,5 +1,5 @@
 use Rattle.std.proofs.lemmas.List.{get_or_read}
-use Rattle.tabled_draw.proofs.Common.{◌+◌, ◌<◌, ◌∙◌, ◌≡◌, arith, left, entries, map_grid}
+use Rattle.tabled_draw.proofs.Common.{◌+◌, ◌<◌, ◌∙◌, ◌≡◌, arith, left, rectangles, map_grid}
 use Rattle.tabled_draw.proofs.Fitting.{fits-of}
 use Rattle.tabled_draw.proofs.PictureWidths.{width-of}
 use Rattle.tabled_draw.proofs.width.picture_width.Goals as goal
@@ -10,7 +10,7 @@ layout_of-requires-clause-fits g c = fits-of (map_grid g.R.Cell.CellText.text_of
 pub returns-in-Some-clause-width : goal.returns-in-Some-clause-width
 returns-in-Some-clause-width g c =
     let t = map_grid g.R.Cell.CellText.text_of (g.R.GridStore.grid c.args.records.now) in
-    let es = entries c.in_ok-spans.spans in
+    let es = rectangles c.in_ok-spans.spans in
     let columns = c.count_columns-columns.ensures.columns in
     let laid = c.in_ok-layout.ensures.edges in
     let within : c.count_columns-columns.result < t.columns + 1 = omega (arith, columns) in

@@ -1,4 +1,4 @@
-use Rattle.tabled_draw.proofs.Common.{◌∙◌, IsBetween, Rows, ap, entries, length, length-replicate, map_grid, subst}
+use Rattle.tabled_draw.proofs.Common.{◌∙◌, IsBetween, Rows, ap, rectangles, length, length-replicate, map_grid, subst}
 use Rattle.tabled_draw.proofs.Fitting.{bytes-drawn, fits-of}
 use Rattle.tabled_draw.proofs.Sizes.{length-sizes}
 use Rattle.tabled_draw.proofs.drawing.Drawing.with_look.Goals as goal
@@ -15,7 +15,7 @@ invariant_of-result g c =
         fits = fits-of t _ m _ _ c.count_rows-rows.ensures.rows c.count_columns-columns.ensures.columns c.in_ok-spans.ensures.fitting c.fitting.ensures.sizes;
         edges = c.in_ok-layout.ensures.edges;
         heights = c.in_ok-layout.ensures.heights;
-        tall = ap length c.in_ok-layout.ensures.heights ∙ length-sizes Rows c.args.look.now.style t (entries m);
+        tall = ap length c.in_ok-layout.ensures.heights ∙ length-sizes Rows c.args.look.now.style t (rectangles m);
         above = c.in_ok-layout.ensures.above;
         here = c.in_ok-layout.ensures.here;
         rests = ap length (c.in_ok-rests.ensures.items_if_clones_equal (λ y e. e)) ∙ length-replicate _ _ ∙ c.count_columns-columns.ensures.columns;
