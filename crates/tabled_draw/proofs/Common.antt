@@ -9,11 +9,11 @@ pub use Rattle.std.proofs.lemmas.List.Sums.{fails_before_first, fold-append, pos
 pub use Rattle.std.proofs.lemmas.Str.{IsUtf8-past_char, chars-IsAscii, chars-nil, chars_past_char, encode_ascii, encodes-append}
 pub use Rattle.std.specs.List.{after_first, before_first, position_or_len, slice_split, sum, sum_by}
 pub use Rattle.std.specs.Str.Iter.{chars_rest, split_has_more, split_pattern, split_text}
-pub use Rattle.tabled_draw.specs.Alignments.{aligned, alignment_in, indent}
+pub use Rattle.tabled_draw.specs.Alignments.{aligned, alignment_in, cell, indent}
 pub use Rattle.tabled_draw.specs.Borders.{Arms, are_none, arms, border, corner, corner_if, differ, is_drawn, line_size, lines_around, mark, size_if, unmerged_arms}
 pub use Rattle.tabled_draw.specs.Each.{by_number, each, is_in_range, largest, total}
 pub use Rattle.tabled_draw.specs.Laid.{AreEdges}
-pub use Rattle.tabled_draw.specs.Lines.{AreLeft, ArePlain, AreUnmerged, EndInside, IsBetween, IsLine, after_line, begins, begun, cell, column, column_if, edge, edge_before, first_line, left_if, left_inside, left_of, level, line_between, marked, stretches, text_inside, unmerged_corner, unmerged_stretch}
+pub use Rattle.tabled_draw.specs.Lines.{AreLeft, ArePlain, AreUnmerged, EndInside, IsBetween, IsLine, after_line, begins, begun, column, column_if, edge, edge_before, first_line, left_if, left_inside, left_of, level, line_between, marked, stretches, text_inside, unmerged_corner, unmerged_stretch}
 pub use Rattle.tabled_draw.specs.Marks.{IsFine, IsFineMark, IsNoControl}
 pub use Rattle.tabled_draw.specs.Measured.{Measured, raised}
 pub use Rattle.tabled_draw.specs.Overall.{AreEquallyWide, AreNoControls, AreNoLargerThanAsked, HoldsOfPictures, drawn_lines, lacking, most_asked, takes}

@@ -39,7 +39,7 @@ aligned-is : (alignment : Alignment) (space free before after : ℕ) (line shown
 aligned-is alignment space free before after line shown is many indents rest = rw (rest, indents, many, is) refl
 
 pub draws-cell : {a b c d e f : Option (List ℕ)} {h i j k l m : Kept} (alignment : Alignment) (text : List ℕ) (space free before after : ℕ) (line : List ℕ) → line ≡ first_line text → free ≡ space - text_width line → before ≡ indent alignment free → after ≡ free - before
-    → Draws a h b i (32 ∷ []) → Draws b i c j (replicate before 32) → Draws c j d k line → Draws d k e l (replicate after 32) → Draws e l f m (32 ∷ []) → Draws a h f m (cell alignment text space)
+    → Draws a h b i (32 ∷ []) → Draws b i c j (replicate before 32) → Draws c j d k line → Draws d k e l (replicate after 32) → Draws e l f m (32 ∷ []) → Draws a h f m (cell alignment space text 0)
 draws-cell alignment text space free before after line is many indents rest first second third fourth fifth =
     draws-as (ap₂ (λ x y. x ++ (line ++ y)) (replicate-append-replicate 1 before 32 ∙ ap (λ n. replicate n 32) (let e : 1 + before ≡ before + 1 = omega arith in e)) (replicate-append-replicate after 1 32) ∙ aligned-is alignment space free before after line (first_line text) is many indents rest)
     (draws-then (draws-then first second) (draws-then third (draws-then fourth fifth)))

@@ -1,6 +1,6 @@
 -- How the lines of texts are aligned.
 use Rattle.std.specs.Prelude.{◌+◌, ◌-◌, ◌/◌, ◌++◌, ℕ, List, length, replicate, slice_index_or}
-use Rattle.tabled_draw.specs.Texts.{text_width}
+use Rattle.tabled_draw.specs.Texts.{line_shown, text_width}
 use Rattle.tabled_draw.specs.declared.alignment.Alignment.{Alignment}
 use Rattle.tabled_draw.specs.declared.alignment.Alignment.TheVariants.{Left, Center, Right}
 
@@ -20,3 +20,7 @@ aligned alignment space line =
     let free = space - text_width line in
     let before = indent alignment free in
     replicate (before + 1) 32 ++ (line ++ replicate (free - before + 1) 32)
+
+-- what a cell shows in a line, in some columns and one blank more at both sides: the k-th line of its text
+abbrev pub cell : Alignment → ℕ → List ℕ → ℕ → List ℕ
+cell alignment space text k = aligned alignment space (line_shown text k)

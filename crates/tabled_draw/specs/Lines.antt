@@ -1,13 +1,13 @@
 -- Lines of a picture, by what is known as they are written.
 use Rattle.std.specs.Prelude.{◌≡◌, ◌≢◌, ◌+◌, ◌-◌, ◌<◌, ◌≤◌, ◌==◌, ◌++◌, if◌then◌else◌, ℕ, Bool, false, List, [], ◌∷◌, Option, None, Some, encode_utf8_all, replicate, slice_index_or}
 use Rattle.std.specs.List.{All, after_first}
-use Rattle.tabled_draw.specs.Alignments.{aligned, alignment_in}
+use Rattle.tabled_draw.specs.Alignments.{alignment_in, cell}
 use Rattle.tabled_draw.specs.Borders.{are_none, arms, border, corner_if, differ, is_drawn, mark, size_if, unmerged_arms}
 use Rattle.tabled_draw.specs.Each.{each}
 use Rattle.tabled_draw.specs.Owners.{Owner, owner}
 use Rattle.tabled_draw.specs.Picture.{top}
 use Rattle.tabled_draw.specs.Sizes.{pad, text_of_cell}
-use Rattle.tabled_draw.specs.Texts.{lines_shown}
+use Rattle.tabled_draw.specs.Texts.{line_shown}
 use Rattle.tabled_draw.specs.declared.alignment.Alignment.{Alignment}
 use Rattle.tabled_draw.specs.declared.style.Style.{Style}
 use Rattle.tabled_grid.specs.declared.records.axis.Axis.TheVariants.{Columns, Rows}
@@ -19,7 +19,7 @@ use Rattle.tabled_grid.specs.declared.config.rectangle.Rectangle.{Rectangle}
 
 -- the first line of a text, as it is shown
 abbrev pub first_line : List ℕ → List ℕ
-first_line text = slice_index_or (lines_shown text) 0 []
+first_line text = line_shown text 0
 
 -- the lines of a text after the first one
 abbrev pub after_line : List ℕ → List ℕ
@@ -39,10 +39,6 @@ edge style is_row drawn a b c d =
     let meeting = arms a b c d in
     if are_none meeting then [] else replicate (size_if drawn) (mark style is_row meeting)
 
--- what a cell with some room shows of its text: the first line, aligned
-abbrev pub cell : Alignment → List ℕ → ℕ → List ℕ
-cell alignment text space = aligned alignment space (first_line text)
-
 -- an owner begins in a column
 abbrev pub begins : ℕ → Owner → Bool
 begins j None = false
@@ -55,7 +51,7 @@ level style drawn edges j = replicate (slice_index_or edges (j + 1) 0 - slice_in
 -- what an owner shows in a column: its text, if it begins there
 abbrev pub text_inside : List Alignment → Bool → List ℕ → ℕ → Owner → List ℕ → List ℕ
 text_inside aligns drawn edges j None text = []
-text_inside aligns drawn edges j (Some o) text = if o.first.col == j then cell (alignment_in aligns j) text (slice_index_or edges (j + o.size.width) 0 - slice_index_or edges j 0 - size_if drawn - pad Columns) else []
+text_inside aligns drawn edges j (Some o) text = if o.first.col == j then cell (alignment_in aligns j) (slice_index_or edges (j + o.size.width) 0 - slice_index_or edges j 0 - size_if drawn - pad Columns) text 0 else []
 
 -- what stands in a column: a border, or what an owner shows
 abbrev pub column_if : Style → List Alignment → Bool → Bool → List ℕ → ℕ → Owner → List ℕ → List ℕ
@@ -128,7 +124,7 @@ pub record EndInside (columns : ℕ) (row : List Owner) : Type 0 where
 
 -- in each column, the lines that are left are those from the n-th of the picture on of the owner in row i that begins there
 pub record AreLeft (style : Style) (g : Grid (List ℕ)) (m : SpanMap) (i n : ℕ) (texts : List (List ℕ)) : Type 0 where
-  pub each : (j : ℕ) (o : Rectangle) → j < g.columns → owner g.rows g.columns (rectangles m) i (j + 1) ≡ Some o → o.first.col ≡ j → (y : ℕ) → slice_index_or (lines_shown (slice_index_or texts j [])) y [] ≡ slice_index_or (lines_shown (text_of_cell g o.first)) (n - top style g (rectangles m) o.first.row - border Rows style g o.first.row + y) []
+  pub each : (j : ℕ) (o : Rectangle) → j < g.columns → owner g.rows g.columns (rectangles m) i (j + 1) ≡ Some o → o.first.col ≡ j → (y : ℕ) → line_shown (slice_index_or texts j []) y ≡ line_shown (text_of_cell g o.first) (n - top style g (rectangles m) o.first.row - border Rows style g o.first.row + y)
 
 -- the text at a place, if its owner begins there, else another one
 abbrev pub begun : Grid (List ℕ) → Owner → Position → List ℕ → List ℕ

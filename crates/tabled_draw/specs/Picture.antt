@@ -1,12 +1,11 @@
 -- The picture of a table: its lines, each a list of characters.
 use Rattle.std.specs.Prelude.{◌+◌, ◌-◌, ◌==◌, ◌||◌, ◌++◌, if◌then◌else◌, ℕ, List, [], ◌∷◌, None, Some, encode_utf8_all, replicate, slice_index_or}
 use Rattle.std.specs.List.{flat_map}
-use Rattle.tabled_draw.specs.Alignments.{aligned, alignment_in}
+use Rattle.tabled_draw.specs.Alignments.{alignment_in, cell}
 use Rattle.tabled_draw.specs.Borders.{are_none, arms, border, differ, mark}
 use Rattle.tabled_draw.specs.Each.{each}
 use Rattle.tabled_draw.specs.Owners.{Owner, owner}
 use Rattle.tabled_draw.specs.Sizes.{heights, pad, room, start_of, text_of_cell, widths}
-use Rattle.tabled_draw.specs.Texts.{lines_shown}
 use Rattle.tabled_draw.specs.declared.alignment.Alignment.{Alignment}
 use Rattle.tabled_draw.specs.declared.style.Style.{Style}
 use Rattle.tabled_draw.specs.declared.style.TheConstants.Style.{ASCII}
@@ -27,7 +26,7 @@ left style g es j = start_of Columns (border Columns style g) (widths style g es
 -- what a cell shows in the n-th line of the picture: its line of text, aligned in its room
 abbrev pub shows : Style → List Alignment → Grid (List ℕ) → List Rectangle → ℕ → Rectangle → List ℕ
 shows style aligns g es n o =
-    aligned (alignment_in aligns o.first.col) (room Columns (border Columns style g) (widths style g es) o.first.col o.size.width) (slice_index_or (lines_shown (text_of_cell g o.first)) (n - top style g es o.first.row - border Rows style g o.first.row) [])
+    cell (alignment_in aligns o.first.col) (room Columns (border Columns style g) (widths style g es) o.first.col o.size.width) (text_of_cell g o.first) (n - top style g es o.first.row - border Rows style g o.first.row)
 
 -- the same in a column, if the cell begins there: elsewhere nothing
 abbrev pub shows_in : Style → List Alignment → Grid (List ℕ) → List Rectangle → ℕ → ℕ → Owner → List ℕ

@@ -1,14 +1,14 @@
 -- What stands where in a picture: its lines, and the columns of a line, are counted from 0.
 use Rattle.std.specs.Prelude.{◌≡◌, ◌+◌, ◌-◌, ◌<◌, ◌≤◌, ◌&&◌, ◌++◌, ℕ, Bool, false, List, [], ◌∷◌, length, nat_lt, not, replicate, slice_index_or}
 use Rattle.std.specs.List.{AllByRecursion, list_any}
-use Rattle.tabled_draw.specs.Alignments.{aligned, alignment_in, indent}
+use Rattle.tabled_draw.specs.Alignments.{alignment_in, cell, indent}
 use Rattle.tabled_draw.specs.Borders.{Arms, are_one, border, corner}
 use Rattle.tabled_draw.specs.Each.{is_in_range}
 use Rattle.tabled_draw.specs.Marks.{IsFine, IsFineMark}
 use Rattle.tabled_draw.specs.Owners.{owner_in}
 use Rattle.tabled_draw.specs.Picture.{left, picture, top}
 use Rattle.tabled_draw.specs.Sizes.{pad, text_of_cell}
-use Rattle.tabled_draw.specs.Texts.{text_width, lines_shown}
+use Rattle.tabled_draw.specs.Texts.{line_shown, lines_shown, text_width}
 use Rattle.tabled_draw.specs.declared.alignment.Alignment.{Alignment}
 use Rattle.tabled_draw.specs.declared.style.Style.{Style}
 use Rattle.tabled_draw.specs.declared.style.TheConstants.Style.{ASCII}
@@ -56,7 +56,7 @@ inner_left style g es p = left style g es p.col + border Columns style g p.col
 
 -- the k-th line of a cell's text, without characters where the text has fewer lines
 abbrev pub text_line : Grid (List ℕ) → Position → ℕ → List ℕ
-text_line g p k = slice_index_or (lines_shown (text_of_cell g p)) k []
+text_line g p k = line_shown (text_of_cell g p) k
 
 -- how many columns stand between a blank after a cell's left border and a line of its text
 abbrev pub indent_of : Style → List Alignment → Grid (List ℕ) → List Rectangle → Position → ℕ → ℕ
@@ -64,7 +64,7 @@ indent_of style aligns g es p k = indent (alignment_in aligns p.col) (inner_widt
 
 -- what stands between a cell's borders in one of its lines: a line of its text, with blanks before and behind it
 abbrev pub inner_line : Style → List Alignment → Grid (List ℕ) → List Rectangle → Position → ℕ → List ℕ
-inner_line style aligns g es p k = aligned (alignment_in aligns p.col) (inner_width style g es p - pad Columns) (text_line g p k)
+inner_line style aligns g es p k = cell (alignment_in aligns p.col) (inner_width style g es p - pad Columns) (text_of_cell g p) k
 
 -- characters stand in the n-th line of a picture, after some columns, with some characters of borders right before and
 -- right behind them

@@ -1,8 +1,9 @@
 //! Lines of texts, and how wide they are.
 
 ghost use Rattle.std.specs.Prelude.{◌≡◌, ◌-◌, IsTrue};
+ghost use Rattle.tabled_draw.specs.Alignments.{cell};
 ghost use Rattle.tabled_draw.specs.Sent.{Draws};
-ghost use Rattle.tabled_draw.specs.Lines.{ArePlain, IsLine, after_line, cell, first_line};
+ghost use Rattle.tabled_draw.specs.Lines.{ArePlain, IsLine, after_line, first_line};
 ghost use Rattle.tabled_draw.specs.Sizes.{asks};
 ghost use Rattle.tabled_draw.specs.Texts.{text_width, shown_character, shown_line, widest};
 ghost use Rattle.tabled_grid.specs.declared.records.axis.Axis.TheVariants.{Rows, Columns};
@@ -99,7 +100,7 @@ pub(crate) fn write_cell<'a, W: Write>(
     text: &'a str,
     room: usize,
 ) -> &'a str
-    ensures draws { Draws (W.contents writer.old) held.old (W.contents writer.new) held.new (cell alignment text.now room) }
+    ensures draws { Draws (W.contents writer.old) held.old (W.contents writer.new) held.new (cell alignment room text.now 0) }
     ensures rest { result.now ≡ after_line text.now }
 {
     let (line, rest) = cut(text);
