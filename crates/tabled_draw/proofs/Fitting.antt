@@ -1,5 +1,5 @@
 -- Merged cells that fit a table, and those that are kept of any.
-use Rattle.tabled_draw.proofs.Common.{◌∙◌, ◌≡◌, Alignment, AreSpanSizes, Fits, Grid, HoldsOfPictures, List, Rectangle, SpanMap, Style, ap, ap₂, rectangles, rectangles-map_of, fitting, keep_fitting, picture_bytes, subst, sym, ℕ}
+use Rattle.tabled_draw.proofs.Common.{◌∙◌, ◌≡◌, Alignment, AreSpanSizes, Fits, Grid, HoldsOfPictures, List, Rectangle, SpanMap, Style, ap, ap₂, fitting, keep_fitting, picture_bytes, rectangles, rectangles-map_of, subst, sym, ℕ}
 use Rattle.tabled_draw.proofs.Owned.{LieWell, fits-well}
 use Rattle.tabled_draw.specs.Picture.{drawn_with}
 use Rattle.tabled_grid.proofs.Fitting.{anchors-fitting, anchors-of, keep_fitting-all, keep_fitting-fits}

@@ -1,5 +1,5 @@
 -- The width of a picture is where its last edge ends.
-use Rattle.tabled_draw.proofs.Common.{◌+◌, ◌∙◌, ◌≡◌, AreSpanSizes, Grid, List, SpanMap, Style, ap, ap₂, rectangles, fitting, keep_fitting, left, line_size, ℕ}
+use Rattle.tabled_draw.proofs.Common.{◌+◌, ◌∙◌, ◌≡◌, AreSpanSizes, Grid, List, SpanMap, Style, ap, ap₂, fitting, keep_fitting, left, line_size, rectangles, ℕ}
 use Rattle.tabled_draw.proofs.Fitting.{kept-rectangles}
 use Rattle.tabled_draw.specs.Width.{picture_width}
 

@@ -2,7 +2,7 @@
 use Rattle.std.proofs.lemmas.List.{map-append}
 use Rattle.std.specs.FinMap as map
 use Rattle.std.specs.Global.{Vec}
-use Rattle.tabled_draw.proofs.Common.{[], ◌++◌, ◌+◌, ◌∙◌, ◌∷◌, ◌≡◌, Alignment, AreSpanSizes, Grid, List, SpanMap, Style, all-append, ap, ap₂, each, rectangles, fitting, keep_fitting, length, length-map, map, map_grid, refl, subst, sym, ℕ}
+use Rattle.tabled_draw.proofs.Common.{[], ◌++◌, ◌+◌, ◌∙◌, ◌∷◌, ◌≡◌, Alignment, AreSpanSizes, Grid, List, SpanMap, Style, all-append, ap, ap₂, each, fitting, keep_fitting, length, length-map, map, map_grid, rectangles, refl, subst, sym, ℕ}
 use Rattle.tabled_draw.proofs.Each.{each-more}
 use Rattle.tabled_draw.proofs.Fitting.{kept-rectangles}
 use Rattle.tabled_draw.specs.Markdown.{apart, markdown, rows_apart}

@@ -1,4 +1,4 @@
-use Rattle.tabled_draw.proofs.Common.{◌+◌, ◌∙◌, ◌≡◌, AreUnmerged, Draws, IsOwnerRow, ap, ap₂, arith, border_line, border_of_rests, bytes_in, rectangles, length, map_grid, refl, subst, sym, top, with_newlines}
+use Rattle.tabled_draw.proofs.Common.{◌+◌, ◌∙◌, ◌≡◌, AreUnmerged, Draws, IsOwnerRow, ap, ap₂, arith, border_line, border_of_rests, bytes_in, length, map_grid, rectangles, refl, subst, sym, top, with_newlines}
 use Rattle.tabled_draw.proofs.Owned.{count-none, owner-below, owner-top, row-outside}
 use Rattle.tabled_draw.proofs.Rows.{all-rows, border-text, end-inside, left-outside, more-rows}
 use Rattle.tabled_draw.proofs.Sent.{draws-as, draws-none, draws-then}

@@ -1,4 +1,4 @@
-use Rattle.tabled_draw.proofs.Common.{◌∙◌, ◌≡◌, Columns, Rows, rectangles, heights, map_grid, widths}
+use Rattle.tabled_draw.proofs.Common.{◌∙◌, ◌≡◌, Columns, Rows, heights, map_grid, rectangles, widths}
 use Rattle.tabled_draw.proofs.Sizes.{edges-of, none-asked, own-long, sizes-is}
 use Rattle.tabled_draw.proofs.layout.layout_of.Goals as goal
 

@@ -1,5 +1,5 @@
 use Rattle.std.specs.String.{string_bytes}
-use Rattle.tabled_draw.proofs.Common.{[], ◌∙◌, ◌∷◌, ◌≡◌, ap, arith, each, rectangles, map_grid}
+use Rattle.tabled_draw.proofs.Common.{[], ◌∙◌, ◌∷◌, ◌≡◌, ap, arith, each, map_grid, rectangles}
 use Rattle.tabled_draw.proofs.Singly.{row-more, wide-more}
 use Rattle.tabled_draw.specs.Markdown.{row_apart}
 use Rattle.tabled_draw.proofs.markdown.all_texts.Goals as goal

@@ -1,5 +1,5 @@
 use Rattle.std.specs.String.{string_bytes}
-use Rattle.tabled_draw.proofs.Common.{[], ◌∷◌, ◌≡◌, SpanMap, each, rectangles, map, map_grid}
+use Rattle.tabled_draw.proofs.Common.{[], ◌∷◌, ◌≡◌, SpanMap, each, map, map_grid, rectangles}
 use Rattle.tabled_draw.specs.Markdown.{row_apart}
 use Rattle.tabled_grid.specs.Covers.{cover_of}
 use Rattle.tabled_grid.specs.Evenness.{AreWide}

@@ -1,5 +1,5 @@
 use Rattle.std.specs.String.{string_bytes}
-use Rattle.tabled_draw.proofs.Common.{[], ◌∷◌, ◌≡◌, SpanMap, each, rectangles, length, map, map_grid, place}
+use Rattle.tabled_draw.proofs.Common.{[], ◌∷◌, ◌≡◌, SpanMap, each, length, map, map_grid, place, rectangles}
 use Rattle.tabled_draw.specs.Markdown.{cell_apart}
 use Rattle.tabled_grid.specs.Covers.{cover_of}
 use Rattle.tabled_draw.proofs.markdown.row_texts.Given as goal

@@ -1,5 +1,5 @@
 use Rattle.std.proofs.lemmas.List.{get_or_read}
-use Rattle.tabled_draw.proofs.Common.{◌+◌, ◌<◌, ◌∙◌, ◌≡◌, arith, left, rectangles, map_grid}
+use Rattle.tabled_draw.proofs.Common.{◌+◌, ◌<◌, ◌∙◌, ◌≡◌, arith, left, map_grid, rectangles}
 use Rattle.tabled_draw.proofs.Fitting.{fits-of}
 use Rattle.tabled_draw.proofs.PictureWidths.{width-of}
 use Rattle.tabled_draw.proofs.width.picture_width.Goals as goal

@@ -1,4 +1,4 @@
-use Rattle.tabled_draw.proofs.Common.{◌∙◌, IsBetween, Rows, ap, rectangles, length, length-replicate, map_grid, subst}
+use Rattle.tabled_draw.proofs.Common.{◌∙◌, IsBetween, Rows, ap, length, length-replicate, map_grid, rectangles, subst}
 use Rattle.tabled_draw.proofs.Fitting.{bytes-drawn, fits-of}
 use Rattle.tabled_draw.proofs.Sizes.{length-sizes}
 use Rattle.tabled_draw.proofs.drawing.Drawing.with_look.Goals as goal
