@@ -26,7 +26,7 @@ module _ (axis : Axis) (old : ℕ → ℕ) (rows columns : ℕ) (mirrors : (i : 
   leads_back = lines_lead_back axis old rows columns (λ i h. let far = mirrors i h in let within : old i < count_of axis rows columns = omega (arith, far) in (within, omega (arith, far, mirrors (old i) within)))
 
   moved : (a : Position) (s : Size) → HasArea (rectangle a s) → a.row + s.height ≤ rows → a.col + s.width ≤ columns → (f : Rectangle) × Carries places (rectangle a s) f × HasArea f
-  moved a s full high far = (rectangle (in_line axis a (count_of axis rows columns - (line_of axis a + count_of axis s.height s.width))) s), lines_carry a s high far, record { height = full.height; width = full.width })
+  moved a s full high far = (rectangle (in_line axis a (count_of axis rows columns - (line_of axis a + count_of axis s.height s.width))) s, lines_carry a s high far, record { height = full.height; width = full.width })
 
   twice : (m : SpanMap) → Fits m rows columns → carried places rows columns (carried places rows columns m) ≡ m
   twice m fits = carried_back places places leads_back m rows columns fits (record { each = λ a s h. let size = fits.sizes.each a s h in let room = fits.inside a s h in moved a s (record { height = size.height; width = size.width }) room.0 room.1 })

@@ -111,14 +111,20 @@ impl MovesRectangles for Rotation {
             height: width,
             width: height,
         };
-        let (first, size) = match self.rotate {
-            Rotate::Left => (Position::new(self.columns - right, first.row), turned),
-            Rotate::Right => (Position::new(first.col, self.rows - bottom), turned),
-            Rotate::Top | Rotate::Bottom => {
-                (Position::new(self.rows - bottom, first.col), of.size)
-            }
-        };
-        Some(Rectangle { first, size })
+        Some(match self.rotate {
+            Rotate::Left => Rectangle {
+                first: Position::new(self.columns - right, first.row),
+                size: turned,
+            },
+            Rotate::Right => Rectangle {
+                first: Position::new(first.col, self.rows - bottom),
+                size: turned,
+            },
+            Rotate::Top | Rotate::Bottom => Rectangle {
+                first: Position::new(self.rows - bottom, first.col),
+                size: of.size,
+            },
+        })
     }
 }
 
