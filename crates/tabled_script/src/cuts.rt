@@ -1,10 +1,10 @@
 //! Which texts of a table are cut, so that its picture is as wide as is asked for.
 
-use crate::limits::{Asked, limits, taken_between};
+use crate::limits::{Asked, limits};
 use std::alloc::{AllocError, Global};
-use tabled_draw::{Lines, Style};
+use tabled_draw::{Lines, Style, line_size, pad};
 use tabled_grid::config::{CoverMap, Position, Rectangle, SpannedConfig};
-use tabled_grid::records::CellText;
+use tabled_grid::records::{Axis, CellText};
 use tabled_language::LentText;
 use unicode_width::{UnicodeWidthChar, UnicodeWidthStr};
 
@@ -116,7 +116,7 @@ fn grow(asked: &mut [Asked], lines: Lines, first: usize, columns: usize, text: A
             have.word = have.word.saturating_add(column.word);
         }
     }
-    let between = between(lines, first, columns);
+    let between = between(lines, asked.len(), first, columns);
     let lacks = Asked {
         line: text.line.saturating_sub(have.line.saturating_add(between)),
         word: text.word.saturating_sub(have.word.saturating_add(between)),
@@ -142,18 +142,21 @@ fn part(number: usize, parts: usize, k: usize) -> usize {
     }
 }
 
-/// What stands between the texts of columns that are merged.
-fn between(lines: Lines, first: usize, columns: usize) -> usize {
+/// What stands between the texts of columns that are merged, in a table of so many columns.
+fn between(lines: Lines, count: usize, first: usize, columns: usize) -> usize {
     let mut taken: usize = 0;
     for k in 1..columns {
-        taken = taken.saturating_add(taken_between(lines, first.saturating_add(k)));
+        let line = line_size(lines, count, first.saturating_add(k));
+        taken = taken
+            .saturating_add(line)
+            .saturating_add(pad(Axis::Columns));
     }
     taken
 }
 
 /// The room of the text of a cell, by the widths of its columns.
 fn room(limits: &[usize], lines: Lines, first: usize, columns: usize) -> usize {
-    let mut room = between(lines, first, columns);
+    let mut room = between(lines, limits.len(), first, columns);
     for k in 0..columns {
         if let Some(limit) = limits.get(first.saturating_add(k)) {
             room = room.saturating_add(*limit);

@@ -1,7 +1,8 @@
 //! How wide the columns of a table may be, so that a picture is as wide as is asked for.
 
 use std::alloc::{AllocError, Global};
-use tabled_draw::Lines;
+use tabled_draw::{Lines, line_size, pad};
+use tabled_grid::records::Axis;
 
 /// What the texts of a column, or one text, ask.
 #[derive(Clone, Copy)]
@@ -45,23 +46,11 @@ pub(crate) fn limits(
 
 /// The columns that borders take, and the blanks beside the texts of n columns.
 fn taken_around(lines: Lines, columns: usize) -> usize {
-    let mut taken: usize = if lines.first { 3 } else { 2 };
-    for k in 1..columns {
-        taken = taken.saturating_add(taken_between(lines, k));
+    let mut taken = columns.saturating_mul(pad(Axis::Columns));
+    for k in 0..columns {
+        taken = taken.saturating_add(line_size(lines, columns, k));
     }
-    if lines.last || (columns == 1 && lines.second) {
-        taken = taken.saturating_add(1);
-    }
-    taken
-}
-
-/// What stands between the texts of the k-th column, counted from 1, and the next one.
-pub(crate) fn taken_between(lines: Lines, k: usize) -> usize {
-    if lines.inner || (k == 1 && lines.second) {
-        3
-    } else {
-        2
-    }
+    taken.saturating_add(line_size(lines, columns, columns))
 }
 
 /// The highest level, at most a room, at which columns don't take more than that.
