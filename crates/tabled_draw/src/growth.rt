@@ -63,13 +63,8 @@ fn put_in_order(
     Ok(order)
 }
 
-/// Lets n sizes from one on, of rows or of columns, grow by what they lack for a text that asks for so much: all alike,
-/// and the first of them by the rest. The lines that are drawn between them, and what stands beside texts, are room, too.
-///
-/// Refused where a size, or the room, comes to more than `usize::MAX`: some of the sizes may have grown then.
-///
-/// Of this project.
-pub fn grow(
+/// Lets n sizes grow by what they lack, with the lines that are drawn between them.
+fn grow(
     sizes: &mut Vec<usize>,
     axis: Axis,
     lines: Lines,

@@ -22,7 +22,6 @@ mod width;
 pub use alignment::Alignment;
 pub use borders::{is_drawn, line_size, pad};
 pub use drawing::Drawing;
-pub use growth::grow;
 pub use look::Look;
 pub use markdown::{draw_markdown, markdown_texts};
 pub use pictures::{draw, draw_with, picture, picture_with};
