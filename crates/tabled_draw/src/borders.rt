@@ -10,10 +10,8 @@ use tabled_grid::records::Axis;
 
 /// Says whether the k-th line is drawn of those around n rows, or n columns. The 0-th is before the first of them, and the
 /// n-th behind the last one. There is none behind that.
-///
-/// Of this project.
 #[inline(always)]
-pub fn is_drawn(lines: Lines, n: usize, k: usize) -> bool
+pub(crate) fn is_drawn(lines: Lines, n: usize, k: usize) -> bool
     ensures { result ≡ is_drawn lines n k }
 {
     (k == 0 && lines.first)

@@ -20,7 +20,7 @@ mod texts;
 mod width;
 
 pub use alignment::Alignment;
-pub use borders::{is_drawn, line_size, pad};
+pub use borders::{line_size, pad};
 pub use drawing::Drawing;
 pub use look::Look;
 pub use markdown::{draw_markdown, markdown_texts};
