@@ -6,6 +6,7 @@ pub mod csv;
 pub mod flat;
 pub mod geometry;
 pub mod language;
+pub mod merged;
 pub mod options;
 pub mod own_store;
 pub mod pictures;

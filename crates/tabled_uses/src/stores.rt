@@ -190,6 +190,25 @@ where
     Ok(())
 }
 
+/// Inserts a row, or a column, before all others and removes it again.
+pub fn insert_and_remove_line<R>(
+    alloc: Global,
+    records: &mut R,
+    axis: Axis,
+) -> Result<(), AllocError>
+where
+    R: Resizable + Records + ExactRecords,
+    R::Cell: Blank,
+    requires { R.is_well_formed records.old }
+    ensures { R.is_well_formed records.new }
+{
+    records.insert_line(alloc, axis, 0)?;
+    if axis.count(records) > 0 {
+        records.remove_line(axis, 0);
+    }
+    Ok(())
+}
+
 /// The shape of any store: no columns without rows.
 pub fn shape<R>(records: &mut R) -> (usize, usize)
 where

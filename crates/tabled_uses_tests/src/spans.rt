@@ -4,7 +4,9 @@ use Side::{Height, Width};
 use std::alloc::{AllocError, Global};
 use std::test::Fail;
 use tabled_grid::config::{CoverMap, Position, Rectangle, Size, SpannedConfig};
+use tabled_grid::records::Axis;
 use tabled_testing::{merged, push_merged};
+use tabled_uses::merged::{comes_apart, grows_by_one, has_room, is_merged_into};
 
 /// Whether merged cells are spelled so.
 fn is_spelled(alloc: Global, spans: &SpannedConfig, want: &str) -> Result<bool, AllocError> {
@@ -282,4 +284,33 @@ fn keeps_merged_cells_at_a_refusal(rt: HostRuntime) {
         // Where the merged cells themselves are refused, there is nothing to compare.
         assert!(rt; keeps(rt.alloc(), call) != Ok(false));
     }
+}
+
+#[test]
+fn rectangles_tell_where_they_lie(rt: HostRuntime) -> Result<(), Fail> {
+    let alloc = rt.alloc();
+    let pos = Position::new(1, 1);
+    let size = Size {
+        height: 2,
+        width: 2,
+    };
+    let here = Rectangle { first: pos, size };
+    let beside = Rectangle {
+        first: Position::new(1, 3),
+        size: Size::CELL,
+    };
+    assert!(rt; has_room(here, beside, 3, 4));
+    assert!(rt; !has_room(here, here, 3, 4));
+    assert!(rt; !has_room(here, beside, 2, 4));
+    assert!(rt; is_merged_into(here, Position::new(2, 2)));
+    assert!(rt; !is_merged_into(here, Position::new(3, 2)));
+    assert!(rt; !is_merged_into(beside, Position::new(1, 3)));
+
+    let mut cfg = SpannedConfig::new(alloc);
+    grows_by_one(alloc, &mut cfg, Axis::Rows, pos)?;
+    grows_by_one(alloc, &mut cfg, Axis::Columns, pos)?;
+    assert!(rt; cfg.size(pos) == size);
+    comes_apart(&mut cfg, alloc, pos)?;
+    assert!(rt; cfg.anchors().is_empty());
+    Ok(())
 }

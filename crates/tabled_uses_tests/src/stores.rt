@@ -6,13 +6,14 @@ use std::alloc::{AllocError, Global};
 use std::test::Fail;
 use tabled_grid::config::Position;
 use tabled_grid::records::{
-    Blank, CellText, ExactRecords, PeekableRecords, PieceOrder, Records, RecordsMut, Resizable,
-    Text, VecRecords,
+    Axis, Blank, CellText, ExactRecords, PeekableRecords, PieceOrder, Records, RecordsMut,
+    Resizable, Text, VecRecords,
 };
 use tabled_testing::{flat, nested, spelled, spells};
 use tabled_uses::stores::Change::{self, *};
 use tabled_uses::stores::{
-    cell, change_lent, fruits, make_change, make_lent_change, push_and_remove_row, read, shape,
+    cell, change_lent, fruits, insert_and_remove_line, make_change, make_lent_change,
+    push_and_remove_row, read, shape,
 };
 
 const TWO_ROWS: &str = "a b / c d /";
@@ -340,11 +341,14 @@ fn grows_and_becomes_rows(rt: HostRuntime) -> Result<(), Fail> {
     let alloc = rt.alloc();
     let mut table = fruits(alloc)?;
     push_and_remove_row(alloc, &mut table)?;
+    insert_and_remove_line(alloc, &mut table, Axis::Rows)?;
+    insert_and_remove_line(alloc, &mut table, Axis::Columns)?;
     change_lent(alloc, &mut table)?;
     assert!(rt; shape(&mut table) == (4, 2));
     assert!(rt; is_even(alloc, table, 2));
     let mut none: VecRecords<Text<String>> = VecRecords::new(alloc, Vec::new(alloc))?;
     push_and_remove_row(alloc, &mut none)?;
+    insert_and_remove_line(alloc, &mut none, Axis::Columns)?;
     assert!(rt; shape(&mut none) == (0, 0));
     Ok(())
 }
