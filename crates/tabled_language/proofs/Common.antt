@@ -20,7 +20,7 @@ pub use Rattle.std.specs.Str.{all_ascii_digits, bytes_eq}
 pub use Rattle.std.specs.Str.Parse.{ParsesUnsigned, digits_value}
 pub use Rattle.std.specs.String.{string_vec}
 pub use Rattle.tabled_grid.proofs.Common.{All-from_recursion, All-permutation, AllByRecursion, AreAnchors, AreSorted, AreWide, Bool, Equal, Err, Fits, Greater, Grid, IsEmptyWithoutRows, IsEven, IsSpanSize, Less, List, MatchOrdering, None, Ok, Option, Ordering, Result, Some, SpanMap, Vec, [], all-append, and_from, and_left, and_parts, and_right, answers_always, ap, append-nil, append_assoc, ap₂, arith, cases_Bool, cases_lt, common_steps, cond, cond-false, cond-true, count_by, drop, drop-drop, drop_all, drop_more, eqb, eqb-true, false, false_from_ne_true, false≢true, flat_map, get_or, get_or_default, grid_of, inl, inr, is_eq, is_lt, length, length-append, length-drop, length-map, lie_well, lies_inside, list_all, list_any, map, map-append, map_grid, map_items, map_of, map_push, max, meets, mul-le-mul_right, nat_cmp, nat_le, none-some, not-true, not_from_false, option_map, or_right, ordering_reverse, pairs, place, position_cmp, range_with_len, ranked, rectangle, rectangles, recursion_from_All, refl, remove, rules, same_Some, same_map, sized, subst, suc, sym, take, take-append-drop, take_all, take_more, true, vec_len, width_of, zero, ℕ, ◌*◌, ◌++◌, ◌+◌, ◌-◌, ◌<◌, ◌∙◌, ◌∷◌, ◌≡◌, ◌≢◌, ◌≤◌, ◌⊎◌}
-pub use Rattle.tabled_grid.proofs.MetAnchors.{meets-turned}
+pub use Rattle.tabled_grid.proofs.PassedAnchors.{meets-turned}
 pub use Rattle.tabled_grid.proofs.PassedAnchors.{Meets, meets-from, meets-true}
 pub use Rattle.tabled_grid.proofs.SortedEntries.{both, find_at, get-map_of, get-rectangles, halves, is_less, map_of-rectangles, positions_exact, positions_total, rectangles-map_of, rectangles_sorted}
 pub use Rattle.tabled_grid.specs.declared.config.position.Position.{Position}

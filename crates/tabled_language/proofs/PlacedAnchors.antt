@@ -5,26 +5,42 @@ use Rattle.std.proofs.Math.Numerals.{add-one}
 use Rattle.std.specs.List.{IsDistinct}
 use Rattle.std.specs.List.Sorted.{IsPermutation, IsSortedByKey}
 use Rattle.std.proofs.lemmas.Map.Keys.{IsDistinct-IsPermutation}
+use Rattle.tabled_grid.specs.Anchors.{are_apart}
 use Rattle.tabled_grid.proofs.Members.{Member, find-member, member-find, sorted-find}
 use Rattle.tabled_grid.proofs.MergedAnchors.{below_more}
 use Rattle.tabled_language.proofs.BackToAnchors.{all-of, of-all}
 
 module _ (rows columns : ℕ) where
+  -- one lies well in front of others where it lies inside, meets none of them, and they lie well
+  pub well-cons : (e : Rectangle) (es : List Rectangle) → lie_well rows columns (e ∷ es) ≡ (lies_inside rows columns e && (list_all (λ (f : Rectangle). not (meets e f)) es && lie_well rows columns es))
+  well-cons e es = exchanged (lies_inside rows columns e) (list_all (lies_inside rows columns) es) (list_all (λ (f : Rectangle). not (meets e f)) es) (are_apart es)
+    where
+      exchanged : (a b c d : Bool) → ((a && b) && (c && d)) ≡ (a && (c && (b && d)))
+      exchanged false b c d = refl
+      exchanged true true c d = refl
+      exchanged true false true d = refl
+      exchanged true false false d = refl
+
   -- those in front lie well where all do
   pub well-left : (es fs : List Rectangle) → lie_well rows columns (es ++ fs) ≡ true → lie_well rows columns es ≡ true
   well-left [] fs h = refl
   well-left (e ∷ es) fs h =
-      let parts = and_parts _ _ h in
+      let parts = and_parts _ _ (sym (well-cons e (es ++ fs)) ∙ h) in
       let rest = and_parts _ _ parts.1 in
       let apart = and_parts _ _ (sym (list_all-append (λ (f : Rectangle). not (meets e f)) es fs) ∙ rest.0) in
-      and_from _ _ parts.0 (and_from _ _ apart.0 (well-left es fs rest.1))
+      well-cons e es ∙ and_from _ _ parts.0 (and_from _ _ apart.0 (well-left es fs rest.1))
 
   -- one more does where it has a place among those in front of it
   pub well-push : (es : List Rectangle) (e : Rectangle) → lie_well rows columns (es ++ e ∷ []) ≡ (lie_well rows columns es && has_place rows columns es e)
-  well-push [] e = refl
+  well-push [] e = alone (lies_inside rows columns e)
+    where
+      alone : (i : Bool) → ((i && true) && true) ≡ (i && true)
+      alone true = refl
+      alone false = refl
   well-push (f ∷ es) e =
-      rw (list_all-append (λ (g : Rectangle). not (meets f g)) es (e ∷ []), well-push es e, meets-turned f e)
-      (moved (lies_inside rows columns f) (list_all (λ (g : Rectangle). not (meets f g)) es) (meets e f) (lie_well rows columns es) (lies_inside rows columns e) (list_any (meets e) es))
+      let step : (lies_inside rows columns f && (list_all (λ (g : Rectangle). not (meets f g)) (es ++ e ∷ []) && lie_well rows columns (es ++ e ∷ []))) ≡ ((lies_inside rows columns f && (list_all (λ (g : Rectangle). not (meets f g)) es && lie_well rows columns es)) && has_place rows columns (f ∷ es) e) = rw (list_all-append (λ (g : Rectangle). not (meets f g)) es (e ∷ []), well-push es e, meets-turned f e)
+      (moved (lies_inside rows columns f) (list_all (λ (g : Rectangle). not (meets f g)) es) (meets e f) (lie_well rows columns es) (lies_inside rows columns e) (list_any (meets e) es)) in
+      well-cons f (es ++ e ∷ []) ∙ step ∙ ap (λ (b : Bool). b && has_place rows columns (f ∷ es) e) (sym (well-cons f es))
     where
       moved : (a b m w i y : Bool) → (a && ((b && (not m && true)) && (w && (i && not y)))) ≡ ((a && (b && w)) && (i && not (m || y)))
       moved false b m w i y = refl
@@ -51,7 +67,7 @@ module _ (rows columns : ℕ) where
   unfolding IsDistinct
   placed-from [] h = record { inside = tt; apart = tt }
   placed-from (e ∷ es) h =
-      let parts = and_parts _ _ h in
+      let parts = and_parts _ _ (sym (well-cons e es) ∙ h) in
       let others = and_parts _ _ parts.1 in
       let rest = placed-from es others.1 in
       record { inside = (parts.0, rest.inside); apart = (all-apart e es others.0, rest.apart) }
@@ -59,7 +75,7 @@ module _ (rows columns : ℕ) where
   placed-to : (es : List Rectangle) → Placed es → lie_well rows columns es ≡ true
   unfolding IsDistinct
   placed-to [] p = refl
-  placed-to (e ∷ es) p = and_from _ _ p.inside.0 (and_from _ _ (apart-all e es p.apart.0) (placed-to es (record { inside = p.inside.1; apart = p.apart.1 })))
+  placed-to (e ∷ es) p = well-cons e es ∙ and_from _ _ p.inside.0 (and_from _ _ (apart-all e es p.apart.0) (placed-to es (record { inside = p.inside.1; apart = p.apart.1 })))
 
   well-moved : (es fs : List Rectangle) → IsPermutation es fs → lie_well rows columns es ≡ true → lie_well rows columns fs ≡ true
   well-moved es fs moved h =
@@ -95,7 +111,7 @@ sorted-well : (rows columns : ℕ) (es : List Rectangle) → AreSpans es → lie
 sorted-well rows columns [] sizes well up = tt
 sorted-well rows columns (e ∷ []) sizes well up = tt
 sorted-well rows columns (e ∷ f ∷ es) sizes well up =
-    let others = and_parts (list_all (λ (g : Rectangle). not (meets e g)) (f ∷ es)) (lie_well rows columns (f ∷ es)) (and_parts (lies_inside rows columns e) _ well).1 in
+    let others = and_parts (list_all (λ (g : Rectangle). not (meets e g)) (f ∷ es)) (lie_well rows columns (f ∷ es)) (and_parts (lies_inside rows columns e) _ (sym (well-cons rows columns e (f ∷ es)) ∙ well)).1 in
     let apart : meets e f ≡ false = not-true _ (and_parts _ (list_all (λ (g : Rectangle). not (meets e g)) es) others.0).0 in
     let step : position_cmp e.first f.first ≡ Less = rises e f apart sizes.0 sizes.1.0 (up 0 e (omega arith) (omega arith)) (position_cmp e.first f.first) refl in
     let rest : AreSorted (f ∷ es) = sorted-well rows columns (f ∷ es) sizes.1 others.1 (λ k d low high. rw add-one (rw add-one at (up (suc k) d (omega arith) (omega (arith, high))))) in
