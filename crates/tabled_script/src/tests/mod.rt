@@ -1,5 +1,7 @@
 //! How the program ends.
 
+mod streams;
+
 use crate::respond::finish;
 use std::alloc::AllocError;
 use std::io::{self, ErrorKind};
