@@ -63,14 +63,14 @@ def verbs(top, prose):
             body = body.strip()
             lines.append(line(heading, first_sentence(body)))
             lines += [" " * LEFT + plain(it).rstrip(".") for it in re.findall(r"^- (`.*)", body, re.M)]
-    stop_where_other("verbs", found, words_of_choices(top, "Verb.antt", "steps", "says"))
+    stop_where_other("verbs", found, words_of_choices(top, "Verb.antt", "steps", "says", "says_verb"))
     return "\n".join(lines[1:])
 
 
 def selectors(top, prose):
     lines = re.findall(r"^- (\*\*.*)", under(prose, "Selectors"), re.M)
     lines = [plain(it).partition(": ") for it in lines]
-    wanted = words_of_choices(top, "Selectors.antt", "range_selectors", "plain_selectors", "holding_selectors", "selectors")
+    wanted = words_of_choices(top, "Selectors.antt", "range_selectors", "edge_selectors", "holding_selectors", "selectors")
     stop_where_other("selectors", [it.split()[0] for it, _, _ in lines], wanted)
     return "\n".join(line(written, meaning.rstrip(".")) for written, _, meaning in lines)
 

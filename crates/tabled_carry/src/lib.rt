@@ -2,6 +2,7 @@
 #![tactic(auto)]
 
 mod carry;
+mod cuts;
 mod images;
 pub mod laws;
 mod sort;

@@ -1,8 +1,8 @@
 -- Where the cells of pieces come from, by their places.
-use Rattle.tabled_grid.proofs.Common.{◌*◌, ◌<◌, ◌∙◌, ◌≡◌, ◌≤◌, Axis, Bool, Columns, FillsThrough, Grid, IfSome, IsInside, None, Option, PieceOrder, Position, Rows, Some, TakesOnce, Within, across, ap, ap₂, arith, cell_at, common_steps, cond, count_along, count_of, cut_places, div_ceil, div_ceil_times, false, index_in_line, le-ltb, line_of, ltb-false, nat_lt, nth_piece, place_in, refl, row_fits, true, unwrap_or, ℕ}
+use Rattle.tabled_grid.proofs.Common.{◌%◌, ◌*◌, ◌+◌, ◌/◌, ◌<◌, ◌∙◌, ◌≡◌, ◌≤◌, Axis, Bool, Columns, FillsThrough, Grid, IfSome, IsInside, None, Option, PieceOrder, Places, Position, Rows, Some, TakesOnce, Within, across, ap, ap₂, arith, cell_at, common_steps, cond, count_along, count_of, cut_places, div-add-mod', div_below, div_ceil, div_ceil_times, false, index_in_line, le-ltb, line_of, ltb-false, mod_below, nat_lt, nth_piece, piece_index, place_in, refl, row_fits, true, unwrap_or, ℕ}
 use Rattle.std.proofs.lemmas.Bool.{lt-ltb, ltb-true}
 use Rattle.tabled_grid.proofs.PiecesCut.{ComesFrom, IsCut, enough_pieces, more_lines, some_pieces}
-use Rattle.tabled_grid.proofs.PiecesPut.{inside_of, piece_line, piece_number, source, source_apart}
+use Rattle.tabled_grid.proofs.PiecesPut.{inside_of, piece_index_below, piece_line, piece_number, piece_of, source, source_apart}
 
 -- a place by its line
 pub place_is : (axis : Axis) (p : Position) → place_in axis (line_of axis p) (line_of (across axis) p) ≡ p
@@ -32,6 +32,10 @@ shape_of Columns g m n h k = (k, h)
 counts_of : {A : Type 0} (axis : Axis) (g : Grid A) (m n : ℕ) → g.rows ≡ count_of axis m n → g.columns ≡ count_of axis n m → (count_along axis g ≡ m) × (count_along (across axis) g ≡ n)
 counts_of Rows g m n h k = (h, k)
 counts_of Columns g m n h k = (k, h)
+
+within_shape : (axis : Axis) (t b m n : ℕ) (places : Places) → places.rows ≡ count_of axis m n → places.columns ≡ count_of axis n m → t < m → b < n → Within places (place_in axis t b)
+within_shape Rows t b m n places tall wide h k = record { row = omega (arith, h, tall); col = omega (arith, k, wide) }
+within_shape Columns t b m n places tall wide h k = record { row = omega (arith, k, tall); col = omega (arith, h, wide) }
 
 if_some : (P : Position → Type 0) (b : Bool) (q : Position) → (b ≡ true → P q) → IfSome (cond b (Some q) None) P
 if_some P true q h = h refl
@@ -96,8 +100,11 @@ module _ (axis : Axis) (order : PieceOrder) (index lines width : ℕ) (some : 0 
   found : (p q : Position) → (cut_places axis order index lines width).old_place p ≡ Some q → (index_in_line order index lines (div_ceil width index) (line_of axis p) (line_of (across axis) p) < width) × (source axis order index lines (div_ceil width index) (line_of axis p) (line_of (across axis) p) ≡ q)
   found p q is = grind (arith, common_steps, some_is, source, ltb-true)
 
+  takes_apart : (p r q : Position) → Within (cut_places axis order index lines width) p → Within (cut_places axis order index lines width) r → (cut_places axis order index lines width).old_place p ≡ Some q → (cut_places axis order index lines width).old_place r ≡ Some q → p ≡ r
+  takes_apart p r q v w e f = grind (arith, common_steps, found, any, lines_of, source_apart, place_is)
+
   pub pieces_take_once : {A : Type 0} (g : Grid A) → lines ≡ count_along axis g → width ≡ count_along (across axis) g → TakesOnce (cut_places axis order index lines width) g
-  pieces_take_once {A} g lines_are width_is = grind (arith, common_steps, found, inside_of, piece_line, any, lines_of, source_apart, place_is)
+  pieces_take_once {A} g lines_are width_is = grind (arith, common_steps, found, inside_of, piece_line, any, lines_of, takes_apart)
 
   -- a piece begins inside its line
   pub starts_inside : (t : ℕ) → t < lines * div_ceil width index → (nth_piece order lines (div_ceil width index) t).1 * index < width
@@ -108,3 +115,33 @@ module _ (axis : Axis) (order : PieceOrder) (index lines width : ℕ) (some : 0 
   -- there are pieces
   pub some_lines : 0 < lines * div_ceil width index
   some_lines = omega (arith, some, more_lines lines (div_ceil width index) any)
+
+  -- a cell that comes to a new place stood in a line
+  pub stood_in_line : (p q : Position) → Within (cut_places axis order index lines width) p → (cut_places axis order index lines width).old_place p ≡ Some q → (line_of axis q < lines) × (line_of (across axis) q < width)
+  stood_in_line p q w e = grind (arith, common_steps, found, piece_line, any, lines_of, line_is, across_is)
+
+  -- the one new place of a cell
+  module _ (q : Position) (h : line_of axis q < lines) (l : line_of (across axis) q < width) where
+    abbrev at_piece : ℕ
+    at_piece = piece_index order lines (div_ceil width index) (line_of axis q) (line_of (across axis) q / index)
+
+    abbrev at_cell : ℕ
+    at_cell = line_of (across axis) q % index
+
+    number_in : line_of (across axis) q / index < div_ceil width index
+    number_in = div_below (line_of (across axis) q) index (div_ceil width index) some_index (omega (arith, l, enough))
+
+    of_piece : nth_piece order lines (div_ceil width index) at_piece ≡ (line_of axis q, line_of (across axis) q / index)
+    of_piece = piece_of order lines (div_ceil width index) (line_of axis q) (line_of (across axis) q / index) h number_in
+
+    index_is : index_in_line order index lines (div_ceil width index) at_piece at_cell ≡ line_of (across axis) q
+    index_is = ap (λ (r : ℕ × ℕ). r.1 * index + at_cell) of_piece ∙ div-add-mod' (line_of (across axis) q) index
+
+    within : Within (cut_places axis order index lines width) (place_in axis at_piece at_cell)
+    within = within_shape axis at_piece at_cell (lines * div_ceil width index) index (cut_places axis order index lines width) refl refl (piece_index_below order lines (div_ceil width index) (line_of axis q) (line_of (across axis) q / index) h number_in) (mod_below (line_of (across axis) q) index some_index)
+
+    takes : (cut_places axis order index lines width).old_place (place_in axis at_piece at_cell) ≡ Some q
+    takes = grind (arith, common_steps, line_is, across_is, lt-ltb, index_is, of_piece, place_is)
+
+    pub goes_once : Within (cut_places axis order index lines width) (place_in axis at_piece at_cell) × ((cut_places axis order index lines width).old_place (place_in axis at_piece at_cell) ≡ Some q) × ((p : Position) → Within (cut_places axis order index lines width) p → (cut_places axis order index lines width).old_place p ≡ Some q → p ≡ place_in axis at_piece at_cell)
+    goes_once = (within, takes, λ p w e. takes_apart p (place_in axis at_piece at_cell) q w within e takes)

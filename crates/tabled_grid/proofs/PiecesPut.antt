@@ -1,5 +1,6 @@
 -- Cells swapped to the fronts of the lines that become pieces.
-use Rattle.tabled_grid.proofs.Common.{◌*◌, ◌+◌, ◌<◌, ◌∙◌, ◌≡◌, ◌≢◌, ◌≤◌, ◌⊎◌, All-from_recursion, Axis, Columns, Concat, Grid, IsEven, IsInside, IsPiece, IsShapedAs, None, Option, PieceOrder, Position, Rows, Some, Zip, across, ap, ap₂, arith, cases_eq, cases_lt, cell_at, common_steps, count_along, div-add-mod', div-le_self, div_below, inl, inr, mod-le, mod_below, nth_piece, place_in, refl, row_fits, rules, same_from_place, slice_get_cases, sym, with_cell_if, with_cells_swapped, ℕ}
+use Rattle.std.proofs.lemmas.Nat.{div-mul-add, mod-mul-add}
+use Rattle.tabled_grid.proofs.Common.{◌*◌, ◌+◌, ◌<◌, ◌∙◌, ◌≡◌, ◌≢◌, ◌≤◌, ◌⊎◌, All-from_recursion, Axis, Columns, Concat, Grid, IsEven, IsInside, IsPiece, IsShapedAs, None, Option, PieceOrder, Position, Rows, Some, Zip, across, ap, ap₂, arith, cases_eq, cases_lt, cell_at, common_steps, count_along, div-add-mod', div-le_self, div_below, inl, inr, mod-le, mod_below, nth_piece, piece_index, place_in, refl, row_fits, rules, same_from_place, slice_get_cases, sym, with_cell_if, with_cells_swapped, ℕ}
 use Rattle.tabled_grid.proofs.Grids.{cell_at-with_cell_other, cell_at-with_cell_same}
 use Rattle.tabled_grid.proofs.Resized.{IsEven-with_cell_if, IsEven-with_cells_swapped}
 
@@ -58,6 +59,15 @@ is_piece o lines pieces t some any h = grind (arith, common_steps, piece_line, p
 piece_before : (o : PieceOrder) (lines pieces t : ℕ) → (nth_piece o lines pieces t).0 ≤ t
 piece_before Zip lines pieces t = div-le_self t pieces
 piece_before Concat lines pieces t = mod-le t lines
+
+-- the piece of a line and a number
+pub piece_of : (o : PieceOrder) (lines pieces i k : ℕ) → i < lines → k < pieces → nth_piece o lines pieces (piece_index o lines pieces i k) ≡ (i, k)
+piece_of Zip lines pieces i k h l = ap₂ (λ (a b : ℕ). (a, b)) (div-mul-add i pieces k l) (mod-mul-add i pieces k l)
+piece_of Concat lines pieces i k h l = ap₂ (λ (a b : ℕ). (a, b)) (mod-mul-add k lines i h) (div-mul-add k lines i h)
+
+pub piece_index_below : (o : PieceOrder) (lines pieces i k : ℕ) → i < lines → k < pieces → piece_index o lines pieces i k < lines * pieces
+piece_index_below Zip lines pieces i k h l = omega (arith, row_fits i pieces lines pieces h (omega arith), l)
+piece_index_below Concat lines pieces i k h l = omega (arith, row_fits k lines pieces lines l (omega arith), h)
 
 -- a line and a number are those of one piece
 pub one_piece : (o : PieceOrder) (lines pieces t u : ℕ) → (nth_piece o lines pieces t).0 ≡ (nth_piece o lines pieces u).0 → (nth_piece o lines pieces t).1 ≡ (nth_piece o lines pieces u).1 → t ≡ u

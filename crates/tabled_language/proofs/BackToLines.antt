@@ -1,7 +1,7 @@
 -- Lines that are written are read as what they say.
-use Rattle.tabled_language.proofs.Common.{[], ◌&&◌, ◌++◌, ◌<◌, ◌^◌, ◌∙◌, ◌∷◌, ◌≡◌, ◌≢◌, ◌≤◌, ◌⊎◌, AllByRecursion, IsSpanSize, IsUtf8, IsUtf8-from_is_utf8, Line, List, NumberRange, Ok, Reading, RecordLine, Rectangle, ShapeLine, SpanLine, and_left, and_right, ap, arith, codes, cond, decimal, eqb, fails, false, gives, inl, inr, length, map, ne_eqb, place, reads_anchor, reads_extent, reads_shape, reads_size, refl, says_line, sized, tab_separated, then_reads, whole, ℕ, Size, if_span, reads_span_size, rectangle}
+use Rattle.tabled_language.proofs.Common.{[], ◌&&◌, ◌++◌, ◌<◌, ◌^◌, ◌∙◌, ◌∷◌, ◌≡◌, ◌≢◌, ◌≤◌, ◌⊎◌, AllByRecursion, IsSpanSize, IsUtf8, IsUtf8-from_is_utf8, Line, List, NumberRange, Ok, Reading, RecordLine, Rectangle, ShapeLine, SpanLine, and_left, and_right, ap, arith, codes, cond, decimal, eqb, fails, false, gives, inl, inr, length, map, ne_eqb, place, reads_anchor, reads_positive_length, reads_shape, reads_length, refl, says_line, sized, tab_separated, then_reads, whole, ℕ, Size, if_span, reads_span_size, rectangle}
 use Rattle.std.specs.Str.{chars, is_utf8}
-use Rattle.tabled_language.proofs.BackToNumbers.{decimal-utf8, size_of-decimal}
+use Rattle.tabled_language.proofs.BackToNumbers.{decimal-utf8, length_of-decimal}
 use Rattle.tabled_language.proofs.BackToTexts.{texts_of-joined}
 use Rattle.tabled_language.proofs.ScriptLines.{line_of-texts}
 
@@ -31,7 +31,7 @@ shape_words rows columns = decimal rows ∷ decimal columns ∷ []
 
 pub shape_back : (rows columns : ℕ) → rows < 2 ^ 64 → columns < 2 ^ 64 → says_line (tab_separated (codes "shape" ∷ shape_words rows columns)) ≡ ShapeLine (Ok (rows, columns))
 shape_back rows columns r c =
-    let read : whole reads_shape (shape_words rows columns) ≡ Ok (rows, columns) = rw (size_of-decimal rows r, size_of-decimal columns c) refl in
+    let read : whole reads_shape (shape_words rows columns) ≡ Ok (rows, columns) = rw (length_of-decimal rows r, length_of-decimal columns c) refl in
     line_of-texts (tab_separated (codes "shape" ∷ shape_words rows columns)) (codes "shape" ∷ shape_words rows columns) (omega arith)
     (texts_of-joined (codes "shape") (shape_words rows columns) shape_utf8 (decimal-utf8 rows r, (decimal-utf8 columns c, tt)))
     ∙ ap ShapeLine read
@@ -58,19 +58,19 @@ reads-next first next texts left x is = rw is refl
 whole-read : {A : Type 0} (reading : Reading A) (texts : List (List ℕ)) (x : A) → reading.reads texts ≡ Ok (x, []) → whole reading texts ≡ Ok x
 whole-read reading texts x is = rw is refl
 
-size_read : (n : ℕ) (texts : List (List ℕ)) → n < 2 ^ 64 → reads_size.reads (decimal n ∷ texts) ≡ Ok (n, texts)
-size_read n texts small = rw (size_of-decimal n small) refl
+length_read : (n : ℕ) (texts : List (List ℕ)) → n < 2 ^ 64 → reads_length.reads (decimal n ∷ texts) ≡ Ok (n, texts)
+length_read n texts small = rw (length_of-decimal n small) refl
 
-extent_read : (n : ℕ) (texts : List (List ℕ)) → n < 2 ^ 64 → 1 ≤ n → reads_extent.reads (decimal n ∷ texts) ≡ Ok (n, texts)
-extent_read n texts small some =
+positive_length_read : (n : ℕ) (texts : List (List ℕ)) → n < 2 ^ 64 → 1 ≤ n → reads_positive_length.reads (decimal n ∷ texts) ≡ Ok (n, texts)
+positive_length_read n texts small some =
     let more : eqb n 0 ≡ false = ne_eqb n 0 (λ none. omega (arith, some, none)) in
-    reads-next reads_size (λ (m : ℕ). cond (eqb m 0) (fails NumberRange) (gives m)) (decimal n ∷ texts) texts n (size_read n texts small) ∙ rw more refl
+    reads-next reads_length (λ (m : ℕ). cond (eqb m 0) (fails NumberRange) (gives m)) (decimal n ∷ texts) texts n (length_read n texts small) ∙ rw more refl
 
 -- a height and a width of more than one cell
 span_size_read : (size : Size) (texts : List (List ℕ)) → size.height < 2 ^ 64 → size.width < 2 ^ 64 → IsSpanSize size → reads_span_size.reads (decimal size.height ∷ decimal size.width ∷ texts) ≡ Ok (size, texts)
 span_size_read size texts tall wide some =
-    reads-next reads_extent (λ height. then_reads reads_extent (λ width. if_span (sized height width))) (decimal size.height ∷ decimal size.width ∷ texts) (decimal size.width ∷ texts) size.height (extent_read size.height (decimal size.width ∷ texts) tall some.height)
-    ∙ reads-next reads_extent (λ width. if_span (sized size.height width)) (decimal size.width ∷ texts) texts size.width (extent_read size.width texts wide some.width)
+    reads-next reads_positive_length (λ height. then_reads reads_positive_length (λ width. if_span (sized height width))) (decimal size.height ∷ decimal size.width ∷ texts) (decimal size.width ∷ texts) size.height (positive_length_read size.height (decimal size.width ∷ texts) tall some.height)
+    ∙ reads-next reads_positive_length (λ width. if_span (sized size.height width)) (decimal size.width ∷ texts) texts size.width (positive_length_read size.width texts wide some.width)
     ∙ rw (not_one size.height size.width some.merges) refl
 
 -- what is read after the row and the column of an anchor
@@ -78,14 +78,14 @@ abbrev behind_column : ℕ → ℕ → Reading Rectangle
 behind_column row column = then_reads reads_span_size (λ size. gives (rectangle (place row column) size))
 
 abbrev behind_row : ℕ → Reading Rectangle
-behind_row row = then_reads reads_size (λ column. behind_column row column)
+behind_row row = then_reads reads_length (λ column. behind_column row column)
 
 anchor_back : (e : Rectangle) → IsSmall e → IsSpanSize e.size → whole reads_anchor (span_words e) ≡ Ok e
 anchor_back e small size =
     let sizes = decimal e.size.height ∷ decimal e.size.width ∷ [] in
     whole-read reads_anchor (span_words e) e
-    (reads-next reads_size behind_row (span_words e) (decimal e.first.col ∷ sizes) e.first.row (size_read e.first.row (decimal e.first.col ∷ sizes) small.row)
-    ∙ reads-next reads_size (λ column. behind_column e.first.row column) (decimal e.first.col ∷ sizes) sizes e.first.col (size_read e.first.col sizes small.col)
+    (reads-next reads_length behind_row (span_words e) (decimal e.first.col ∷ sizes) e.first.row (length_read e.first.row (decimal e.first.col ∷ sizes) small.row)
+    ∙ reads-next reads_length (λ column. behind_column e.first.row column) (decimal e.first.col ∷ sizes) sizes e.first.col (length_read e.first.col sizes small.col)
     ∙ reads-next reads_span_size (λ size. gives (rectangle (place e.first.row e.first.col) size)) sizes [] e.size (span_size_read e.size [] small.height small.width size))
 
 pub span_back : (e : Rectangle) → IsSmall e → IsSpanSize e.size → says_line (tab_separated (codes "span" ∷ span_words e)) ≡ SpanLine (Ok e)

@@ -1,5 +1,5 @@
 -- What is written of a number is read as that number.
-use Rattle.tabled_language.proofs.Common.{◌-◌, ◌<◌, ◌^◌, ◌∙◌, ◌≡◌, ◌≤◌, IsUtf8, IsUtf8-from_ascii, Some, all_ascii_digits, ap, arith, decimal, digits_value, eqb, leb, length, nat_tests, not, number_to, size_of, sym, ℕ}
+use Rattle.tabled_language.proofs.Common.{◌-◌, ◌<◌, ◌^◌, ◌∙◌, ◌≡◌, ◌≤◌, IsUtf8, IsUtf8-from_ascii, Some, all_ascii_digits, ap, arith, decimal, digits_value, eqb, leb, length, nat_tests, not, number_to, length_of, sym, ℕ}
 use Rattle.std.proofs.lemmas.Fmt.{IsAscii-decimal, decimal_nonempty, digits_decimal, digits_value-decimal}
 use Rattle.tabled_language.proofs.Numbers.{numerals, some_if}
 
@@ -12,8 +12,8 @@ number_to-decimal largest n most fits =
     ∙ ap Some value
 
 -- also those of `usize::MAX`
-pub size_of-decimal : (n : ℕ) → n < 2 ^ 64 → size_of (decimal n) ≡ Some n
-size_of-decimal n fits = number_to-decimal (2 ^ 64 - 1) n (omega arith) fits
+pub length_of-decimal : (n : ℕ) → n < 2 ^ 64 → length_of (decimal n) ≡ Some n
+length_of-decimal n fits = number_to-decimal (2 ^ 64 - 1) n (omega arith) fits
 
 pub decimal-utf8 : (n : ℕ) → n < 2 ^ 64 → IsUtf8 (decimal n)
 decimal-utf8 n fits = IsUtf8-from_ascii (decimal n) (IsAscii-decimal n fits)

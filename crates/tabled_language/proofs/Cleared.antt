@@ -1,14 +1,14 @@
 -- Of the rectangles that may reach a row, those that end above are taken away until one decides.
-use Rattle.tabled_language.proofs.Common.{◌+◌, ◌<◌, ◌∙◌, ◌≡◌, ◌≤◌, ◌⊎◌, AreBeside, AreKeyed, BTreeMap, Bool, EndsAbove, IsBeside, IsClear, IsLastBefore, IsLeft, IsMet, MatchBool, NoneBefore, Rectangle, ap, arith, cases_lt, cond, false, get, inl, inr, is_eq, is_some, leb-false, leb-true, nat_cmp, nat_le, nat_tests, none-some, refl, same_Some, subst, sym, true, ℕ}
+use Rattle.tabled_language.proofs.Common.{◌+◌, ◌<◌, ◌∙◌, ◌≡◌, ◌≤◌, ◌⊎◌, AreBeside, AreKeyed, BTreeMap, Bool, DropsEnded, EndsAbove, IsBeside, IsClear, IsLastBefore, IsMet, MatchBool, NoneBefore, Rectangle, ap, arith, cases_lt, cond, false, get, inl, inr, is_eq, is_some, leb-false, leb-true, nat_cmp, nat_le, nat_tests, none-some, refl, same_Some, subst, sym, true, ℕ}
 use Rattle.std.specs.Prelude.{Option, None, Some}
 
-module _ (old m : BTreeMap ℕ Rectangle) (e : Rectangle) (keyed : AreKeyed old) (beside : AreBeside e.first.row old) (left : IsLeft e.first.row old m) where
+module _ (old m : BTreeMap ℕ Rectangle) (e : Rectangle) (keyed : AreKeyed old) (beside : AreBeside e.first.row old) (drops : DropsEnded e.first.row old m) where
   past : (q : ℕ) (f : Rectangle) → get nat_cmp m q ≡ Some f → e.first.col + e.size.width ≤ q → EndsAbove e.first.row f ⊎ IsBeside e f
-  past q f is after = inr (inr (omega (arith, after, keyed q f (left.kept q f is))))
+  past q f is after = inr (inr (omega (arith, after, keyed q f (drops.had q f is))))
 
   -- none begins before the end
   pub clear-none : NoneBefore m (e.first.col + e.size.width) → IsClear old e
-  clear-none none q f is = by (left.gone q f is)
+  clear-none none q f is = by (drops.stays q f is)
     where
       by : EndsAbove e.first.row f ⊎ (get nat_cmp m q ≡ Some f) → EndsAbove e.first.row f ⊎ IsBeside e f
       by (inl above) = inl above
@@ -23,13 +23,13 @@ module _ (old m : BTreeMap ℕ Rectangle) (e : Rectangle) (keyed : AreKeyed old)
   clear-last near b last reach told = by b told
     where
       here : get nat_cmp old last.0 ≡ Some near
-      here = left.kept last.0 near last.2
+      here = drops.had last.0 near last.2
 
       at : near.first.col ≡ last.0
-      at = keyed last.0 near (left.kept last.0 near last.2)
+      at = keyed last.0 near (drops.had last.0 near last.2)
 
       clear : near.first.col + near.size.width ≤ e.first.col → IsClear old e
-      clear ends r f is = go (left.gone r f is)
+      clear ends r f is = go (drops.stays r f is)
         where
           near_is : get nat_cmp m r ≡ Some f → r ≡ last.0 → f ≡ near
           near_is still same = same_Some f near (sym still ∙ ap (get nat_cmp m) same ∙ last.2)
@@ -56,11 +56,11 @@ module _ (old m : BTreeMap ℕ Rectangle) (e : Rectangle) (keyed : AreKeyed old)
       by false is = met (leb-false _ _ (sym is))
 
   -- one that ends above is taken away
-  pub left-less : (near : Rectangle) (new : BTreeMap ℕ Rectangle) → IsLastBefore m (e.first.col + e.size.width) near → EndsAbove e.first.row near → ((q : ℕ) → get nat_cmp new q ≡ cond (is_eq (nat_cmp near.first.col q)) None (get nat_cmp m q)) → IsLeft e.first.row old new
-  left-less near new last above put = record { kept = λ q f is. left.kept q f (was q f is (is_eq (nat_cmp near.first.col q)) refl); gone = λ q f is. gone q f (left.gone q f is) }
+  pub drops-less : (near : Rectangle) (new : BTreeMap ℕ Rectangle) → IsLastBefore m (e.first.col + e.size.width) near → EndsAbove e.first.row near → ((q : ℕ) → get nat_cmp new q ≡ cond (is_eq (nat_cmp near.first.col q)) None (get nat_cmp m q)) → DropsEnded e.first.row old new
+  drops-less near new last above put = record { had = λ q f is. drops.had q f (was q f is (is_eq (nat_cmp near.first.col q)) refl); stays = λ q f is. gone q f (drops.stays q f is) }
     where
       at : near.first.col ≡ last.0
-      at = keyed last.0 near (left.kept last.0 near last.2)
+      at = keyed last.0 near (drops.had last.0 near last.2)
 
       was : (q : ℕ) (f : Rectangle) → get nat_cmp new q ≡ Some f → (b : Bool) → is_eq (nat_cmp near.first.col q) ≡ b → get nat_cmp m q ≡ Some f
       was q f is true t = absurd (none-some f (sym (put q ∙ ap (λ b. cond b None (get nat_cmp m q)) t) ∙ is))
@@ -82,8 +82,8 @@ smaller None near n k len is = absurd (none-some near is)
 smaller (Some f) near n k len is = omega (arith, len)
 
 -- it was there
-pub last_here : (old m : BTreeMap ℕ Rectangle) (row end : ℕ) (near : Rectangle) → AreKeyed old → IsLeft row old m → IsLastBefore m end near → get nat_cmp m near.first.col ≡ Some near
-last_here old m row end near keyed left last = ap (get nat_cmp m) (keyed last.0 near (left.kept last.0 near last.2)) ∙ last.2
+pub last_here : (old m : BTreeMap ℕ Rectangle) (row end : ℕ) (near : Rectangle) → AreKeyed old → DropsEnded row old m → IsLastBefore m end near → get nat_cmp m near.first.col ≡ Some near
+last_here old m row end near keyed drops last = ap (get nat_cmp m) (keyed last.0 near (drops.had last.0 near last.2)) ∙ last.2
 
 -- what the tests of a row say
 pub reaches : (b : Bool) (end row : ℕ) → b ≡ nat_le end row → b ≡ false → row < end

@@ -27,7 +27,7 @@ pub use Rattle.tabled_grid.specs.declared.config.position.Position.{Position}
 pub use Rattle.tabled_grid.specs.declared.config.rectangle.Rectangle.{Rectangle}
 pub use Rattle.tabled_grid.specs.declared.config.size.Size.{Size}
 pub use Rattle.tabled_language.proofs.OwnWords.{LackEach, line_of_own_words, own_word, parts_lack, parts_lack_separator}
-pub use Rattle.tabled_language.specs.Drafts.{Draft, anchor_lines, draft_of, fault_behind, is_nil, shape_among, shape_at, shape_misfit, takes, with_line}
+pub use Rattle.tabled_language.specs.Drafts.{Draft, anchor_line, anchor_lines, draft_of, fault_behind, is_nil, shape_among, shape_at, shape_misfit, takes, with_line}
 pub use Rattle.tabled_language.specs.Faults.{fault_among, fault_of, first_fault, is_in_place, may_follow, shape_fault, span_fault, words_fault}
 pub use Rattle.tabled_language.specs.Lent.{bytes_of, texts_in_row}
 pub use Rattle.tabled_language.specs.Line.{anchor_in, has_byte, is_plain, lines_of, meaning_of, record_in, says_line, shape_in, step_in, table_from, texts_of, words_of}
@@ -38,9 +38,9 @@ pub use Rattle.tabled_language.specs.Script.{Script, parse, script_of, script_or
 pub use Rattle.tabled_language.specs.Selectors.{reads_cells, reads_selector, selectors}
 pub use Rattle.tabled_language.specs.Sizes.{if_span, reads_anchor, reads_shape, reads_span_size}
 pub use Rattle.tabled_language.specs.Verb.{EmptyLine, FaultyLine, Line, RecordLine, ShapeLine, SpanLine, StepLine, reads_dup, reads_rows, reads_table, rows_of_texts, says, step_line, steps}
-pub use Rattle.tabled_language.specs.Walk.{AreBeside, AreKeyed, EndsAbove, IsBeside, IsClear, IsLastBefore, IsLeft, IsMet, NoneBefore, RowsRise}
-pub use Rattle.tabled_language.specs.Word.{before, escape, if_utf8, integer_of, number_of, number_to, size_of, text_of_word, unescaped}
-pub use Rattle.tabled_language.specs.Words.{Read, Reading, behind, fails, first_word, gives, keeping_asks, kept, reads_count, reads_extent, reads_number, reads_size, reads_text, reads_word, then_reads, whole}
+pub use Rattle.tabled_language.specs.Walk.{AreBeside, AreKeyed, DropsEnded, EndsAbove, IsBeside, IsClear, IsLastBefore, IsMet, NoneBefore, RowsRise}
+pub use Rattle.tabled_language.specs.Word.{before, escape, if_utf8, integer_of, length_of, number_of, number_to, text_of_word, unescaped}
+pub use Rattle.tabled_language.specs.Words.{Read, Reading, behind, fails, first_word, gives, keeping_asks, kept, reads_length, reads_number, reads_positive_length, reads_positive_number, reads_text, reads_word, then_reads, whole}
 pub use Rattle.tabled_language.specs.declared.draft.Shape.{Shape}
 pub use Rattle.tabled_language.specs.declared.fault.Fault.{Fault}
 pub use Rattle.tabled_language.specs.declared.fault.Fault.TheVariants.{NumberRange, OutOfPlace, ShapeDiffers, SpanMisfits}

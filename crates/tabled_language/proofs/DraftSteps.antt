@@ -1,5 +1,5 @@
 -- A draft line by line, and what it says at the end.
-use Rattle.tabled_language.proofs.Common.{[], ◌++◌, ◌+◌, ◌∙◌, ◌∷◌, ◌≡◌, Draft, Err, Fault, IsFirstMisfit, Line, List, None, Ok, Option, Rectangle, Shape, Some, SpanMisfits, State, anchor_in, anchor_lines, ap, arith, draft_of, fault_of, filter_map, filter_map-append, first_fault, lie_well, spans_of, get_or, length, map, option_map, option_or, record_in, refl, script_or_fault, shape_among, shape_at, shape_in, shape_misfit, step_in, table_from, true, with_line, ℕ}
+use Rattle.tabled_language.proofs.Common.{Draft, Err, Fault, IsFirstMisfit, Line, List, None, Ok, Option, Rectangle, Shape, Some, SpanMisfits, State, [], anchor_in, anchor_line, anchor_lines, ap, append-nil, append_assoc, arith, draft_of, fault_of, filter_map-append, first_fault, get_or, length, lie_well, option_map, option_or, record_in, refl, script_or_fault, shape_among, shape_at, shape_in, shape_misfit, spans_of, step_in, sym, table_from, true, with_line, ℕ, ◌++◌, ◌+◌, ◌∙◌, ◌∷◌, ◌≡◌}
 use Rattle.tabled_language.proofs.DraftLines.{shape_told}
 use Rattle.tabled_language.proofs.Misfits.{first_misfit_line, no_misfit}
 
@@ -19,20 +19,13 @@ shape-push n m (first ∷ lines) line is =
     ap (option_or (option_map (shape_at (n + 1)) (shape_in first))) (shape-push (n + 1) m lines line (omega (arith, is)))
     ∙ or_assoc (option_map (shape_at (n + 1)) (shape_in first)) (shape_among (n + 1) lines) (option_map (shape_at (m + 1)) (shape_in line))
 
-lines-push : (n m : ℕ) (lines : List Line) (line : Line) → m ≡ n + length lines → anchor_lines n (lines ++ line ∷ []) ≡ anchor_lines n lines ++ map (λ (e : Rectangle). m + 1) (filter_map anchor_in (line ∷ []))
-lines-push n m [] line is = by (anchor_in line) refl
-  where
-    same : m ≡ n
-    same = omega (arith, is)
-
-    by : (o : Option Rectangle) → anchor_in line ≡ o → anchor_lines n (line ∷ []) ≡ map (λ (e : Rectangle). m + 1) (filter_map anchor_in (line ∷ []))
-    by None e = rw e refl
-    by (Some a) e = rw (e, same) refl
-lines-push n m (first ∷ lines) line is = by (anchor_in first) refl (lines-push (n + 1) m lines line (omega (arith, is)))
-  where
-    by : (o : Option Rectangle) → anchor_in first ≡ o → anchor_lines (n + 1) (lines ++ line ∷ []) ≡ anchor_lines (n + 1) lines ++ map (λ (e : Rectangle). m + 1) (filter_map anchor_in (line ∷ [])) → anchor_lines n (first ∷ lines ++ line ∷ []) ≡ anchor_lines n (first ∷ lines) ++ map (λ (e : Rectangle). m + 1) (filter_map anchor_in (line ∷ []))
-    by None e later = rw e later
-    by (Some a) e later = rw e (ap (λ (ns : List ℕ). (n + 1) ∷ ns) later)
+lines-push : (n m : ℕ) (lines : List Line) (line : Line) → m ≡ n + length lines → anchor_lines n (lines ++ line ∷ []) ≡ anchor_lines n lines ++ anchor_line (m + 1) line
+lines-push n m [] line is =
+    let same : n ≡ m = omega (arith, is) in
+    append-nil (anchor_line (n + 1) line) ∙ ap (λ k. anchor_line (k + 1) line) same
+lines-push n m (first ∷ lines) line is =
+    ap (λ (ns : List ℕ). anchor_line (n + 1) first ++ ns) (lines-push (n + 1) m lines line (omega (arith, is)))
+    ∙ sym (append_assoc (anchor_line (n + 1) first) (anchor_lines (n + 1) lines) (anchor_line (m + 1) line))
 
 -- the draft of one line more
 pub draft_of-push : (lines : List Line) (line : Line) → draft_of (lines ++ line ∷ []) ≡ with_line (draft_of lines) (length lines + 1) line

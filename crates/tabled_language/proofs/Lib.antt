@@ -4,6 +4,7 @@ pub mod BackToLines
 pub mod BackToNumbers
 pub mod BackToRecords
 pub mod BackToTexts
+pub mod BareScripts
 pub mod Cleared
 pub mod Common
 pub mod DeeperSelectors
@@ -19,7 +20,6 @@ pub mod OwnWords
 pub mod PaddedRecords
 pub mod PlacedAnchors
 pub mod PlainLines
-pub mod PlainScripts
 pub mod QuietLines
 pub mod RoundTrip
 pub mod ScriptChecks

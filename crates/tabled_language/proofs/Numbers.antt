@@ -47,8 +47,8 @@ number_to-large {E} largest text (Ok m) n h plain is high =
     omega (arith, high, same, value, most))
 
 -- a text without a minus that is no number is no integer
-pub integer_of-plain : (text : List ℕ) → ((rest : List ℕ) → text ≡ 45 ∷ rest → ⊥) → number_of text ≡ None → integer_of text ≡ None
-integer_of-plain [] plain none = refl
-integer_of-plain (c ∷ cs) plain none =
+pub integer_of-unsigned : (text : List ℕ) → ((rest : List ℕ) → text ≡ 45 ∷ rest → ⊥) → number_of text ≡ None → integer_of text ≡ None
+integer_of-unsigned [] plain none = refl
+integer_of-unsigned (c ∷ cs) plain none =
     let other : eqb c 45 ≡ false = ne_eqb c 45 (λ same. plain cs (ap (λ d. d ∷ cs) same)) in
     rw (other, none) refl

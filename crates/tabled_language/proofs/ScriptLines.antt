@@ -2,7 +2,8 @@
 use Rattle.tabled_language.proofs.Common.{[], ◌&&◌, ◌++◌, ◌+◌, ◌<◌, ◌∙◌, ◌∷◌, ◌≡◌, ◌≢◌, ◌≤◌, AllByRecursion, Bool, Draft, EndsScript, Err, Fault, Faulty, IsUtf8-from_is_utf8, LackEach, Line, LineEnds, List, None, Ok, Option, OutOfMemory, OutOfPlace, ReadError, ReadsLine, ReadsScript, RecordLine, Rectangle, Result, ShapeLine, Some, SpanLine, State, all-append, anchor_in, and_from, and_parts, ap, append-nil, append_assoc, arith, behind, bytes_eq, cond, count_by-le-length, draft_of, eqb, false, false_from_ne_true, fault_behind, fault_of, first_fault, in_line, is_in_place, is_ok, is_plain, keeping_asks, length, length-append, length-map, length-slice_split, lines_of, meaning_of, none-some, not-true, or_right, parts_lack_separator, reads_anchor, reads_shape, refl, remove, says_line, script_or_fault, slice_index_or, step_line, steps, sym, takes, texts_of, true, whole, with_line, words_fault, words_of, ℕ}
 use Rattle.std.specs.Prelude.{codes, map}
 use Rattle.std.proofs.lemmas.Slice.Eq.{bytes_eq-Decides}
-use Rattle.tabled_language.specs.Memory.{line_asks, lines_ask, words_ask}
+use Rattle.tabled_language.specs.Memory.{line_asks, lines_ask, step_asks, verb_asks, words_ask}
+use Rattle.tabled_language.specs.Verb.{says_step, says_verb}
 use Rattle.tabled_language.proofs.DraftLines.{IsSound, fault_told, place_told, sound_line}
 use Rattle.tabled_language.proofs.DraftSteps.{draft_of-push}
 use Rattle.tabled_language.proofs.PlainLines.{texts_of-plain}
@@ -142,13 +143,21 @@ line_asks-texts in_place line plain = rw plain refl
 differ : (verb name : List ℕ) → verb ≢ name → bytes_eq verb name ≡ false
 differ verb name other = false_from_ne_true (bytes_eq verb name) (λ same. other ((bytes_eq-Decides verb name).0 same))
 
--- texts whose verb is none of `row`, `shape` and `span` say a step
-pub meaning_of-step : (texts : List (List ℕ)) (verb : List ℕ) (others : List (List ℕ)) → texts ≡ verb ∷ others → verb ≢ codes "row" → verb ≢ codes "shape" → verb ≢ codes "span" → meaning_of (Some texts) ≡ step_line (whole (behind steps verb) others)
-meaning_of-step texts verb others is row shape span = rw (is, differ verb (codes "row") row, differ verb (codes "shape") shape, differ verb (codes "span") span) refl
+-- texts whose verb isn't `row` say what it says with those after it
+pub meaning_of-verb : (texts : List (List ℕ)) (verb : List ℕ) (others : List (List ℕ)) → texts ≡ verb ∷ others → verb ≢ codes "row" → meaning_of (Some texts) ≡ says_verb verb others
+meaning_of-verb texts verb others is row = rw (is, differ verb (codes "row") row) refl
 
--- they ask for memory as the step does
-pub words_ask-step : (in_place : Line → Bool) (texts : List (List ℕ)) (verb : List ℕ) (others : List (List ℕ)) → texts ≡ verb ∷ others → verb ≢ codes "row" → verb ≢ codes "shape" → verb ≢ codes "span" → words_ask in_place texts ≡ keeping_asks (behind steps verb) others
-words_ask-step in_place texts verb others is row shape span = rw (is, differ verb (codes "row") row, differ verb (codes "shape") shape, differ verb (codes "span") span) refl
+-- they ask for memory as the verb does
+pub words_ask-verb : (in_place : Line → Bool) (texts : List (List ℕ)) (verb : List ℕ) (others : List (List ℕ)) → texts ≡ verb ∷ others → verb ≢ codes "row" → words_ask in_place texts ≡ verb_asks in_place verb others
+words_ask-verb in_place texts verb others is row = rw (is, differ verb (codes "row") row) refl
+
+-- a verb that is none of `row`, `shape` and `span` says a step
+pub says_verb-step : (verb : List ℕ) (texts : List (List ℕ)) → verb ≢ codes "shape" → verb ≢ codes "span" → says_verb verb texts ≡ says_step verb texts
+says_verb-step verb texts shape span = rw (differ verb (codes "shape") shape, differ verb (codes "span") span) refl
+
+-- it asks for memory as the step does
+pub verb_asks-step : (in_place : Line → Bool) (verb : List ℕ) (texts : List (List ℕ)) → verb ≢ codes "shape" → verb ≢ codes "span" → verb_asks in_place verb texts ≡ step_asks verb texts
+verb_asks-step in_place verb texts shape span = rw (differ verb (codes "shape") shape, differ verb (codes "span") span) refl
 
 -- what is read of a line, the line said in other words
 pub same_line : {X : Type 0} (old new : Draft) (n : ℕ) (r : Result X ReadError) (line other : Line) (asks others : Bool) → line ≡ other → asks ≡ others → ReadsLine old n other others r new → ReadsLine old n line asks r new

@@ -1,5 +1,5 @@
 -- Rows of a table, taken from a list of texts.
-use Rattle.tabled_language.proofs.Common.{[], ◌*◌, ◌++◌, ◌+◌, ◌<◌, ◌∙◌, ◌∷◌, ◌≡◌, ◌≤◌, AreWide, Bool, EndsEarly, Err, Faulty, Grid, IsEven, List, NumberRange, Ok, OutOfMemory, Read, ReadError, Reading, ap, ap₂, arith, cond, drop, drop-drop, drop_more, eqb, eqb-false, even-width, fails, false, first_word, get_or, gives, grid_of, le-leb, length, length-drop, length-map, length-map-range_with_len, map, map-append, map-range_with_len_more, map_grid, mul-le-mul_right, or_right, range_with_len, reads_count, reads_number, reads_rows, reads_table, reads_text, refl, rows_of_texts, same_grid, suc, sym, take, take_more, true, wide-map, width_of, zero, ℕ}
+use Rattle.tabled_language.proofs.Common.{[], ◌*◌, ◌++◌, ◌+◌, ◌<◌, ◌∙◌, ◌∷◌, ◌≡◌, ◌≤◌, AreWide, Bool, EndsEarly, Err, Faulty, Grid, IsEven, List, NumberRange, Ok, OutOfMemory, Read, ReadError, Reading, ap, ap₂, arith, cond, drop, drop-drop, drop_more, eqb, eqb-false, even-width, fails, false, first_word, get_or, gives, grid_of, le-leb, length, length-drop, length-map, length-map-range_with_len, map, map-append, map-range_with_len_more, map_grid, mul-le-mul_right, or_right, range_with_len, reads_positive_number, reads_number, reads_rows, reads_table, reads_text, refl, rows_of_texts, same_grid, suc, sym, take, take_more, true, wide-map, width_of, zero, ℕ}
 use Rattle.std.proofs.lemmas.List.{length-take}
 
 abbrev row_at : ℕ → List (List ℕ) → ℕ → List (List ℕ)
@@ -72,20 +72,20 @@ counted : (b : Bool) (m n : ℕ) (rest left : List (List ℕ)) → eqb m 0 ≡ b
 counted true m n rest left none e = let fails : ◌≡◌ {A = Read ℕ} (Err NumberRange) (Ok (n, left)) = e in cc
 counted false m n rest left some e = let same : m ≡ n = ap number e in omega (arith, same, eqb-false m 0 some)
 
--- a count is at least 1
-pub count_some : (texts left : List (List ℕ)) (n : ℕ) → reads_count.reads texts ≡ Ok (n, left) → 0 < n
-count_some texts left n is = by (reads_number.reads texts) refl
+-- a positive number is at least 1
+pub positive_number_some : (texts left : List (List ℕ)) (n : ℕ) → reads_positive_number.reads texts ≡ Ok (n, left) → 0 < n
+positive_number_some texts left n is = by (reads_number.reads texts) refl
   where
     by : (r : Read ℕ) → reads_number.reads texts ≡ r → 0 < n
     by (Err fault) e = let fails = rw e at is in cc
     by (Ok (m, rest)) e = counted (eqb m 0) m n rest left refl (rw e at is)
 
 -- a table that was read
-pub table_read : (texts first second left : List (List ℕ)) (rows columns : ℕ) (g : Grid (List ℕ)) → reads_count.reads texts ≡ Ok (rows, first) → reads_count.reads first ≡ Ok (columns, second) → rows * columns ≤ length second → g ≡ rows_of_texts rows columns second → left ≡ drop (rows * columns) second → reads_table.reads texts ≡ Ok (g, left)
+pub table_read : (texts first second left : List (List ℕ)) (rows columns : ℕ) (g : Grid (List ℕ)) → reads_positive_number.reads texts ≡ Ok (rows, first) → reads_positive_number.reads first ≡ Ok (columns, second) → rows * columns ≤ length second → g ≡ rows_of_texts rows columns second → left ≡ drop (rows * columns) second → reads_table.reads texts ≡ Ok (g, left)
 table_read texts first second left rows columns g a b fits is rest = rw (a, b, le-leb (rows * columns) (length second) fits, is, rest) refl
 
 -- memory is asked for where there are words enough
-pub table_asks : (texts first second : List (List ℕ)) (rows columns : ℕ) → reads_count.reads texts ≡ Ok (rows, first) → reads_count.reads first ≡ Ok (columns, second) → rows * columns ≤ length second → reads_table.asks texts ≡ true
+pub table_asks : (texts first second : List (List ℕ)) (rows columns : ℕ) → reads_positive_number.reads texts ≡ Ok (rows, first) → reads_positive_number.reads first ≡ Ok (columns, second) → rows * columns ≤ length second → reads_table.asks texts ≡ true
 table_asks texts first second rows columns a b fits =
     let behind : (reads_rows rows columns).asks second ≡ true = rw (le-leb (rows * columns) (length second) fits) refl in
-    or_right (reads_count.asks texts) _ (rw a (or_right (reads_count.asks first) _ (rw b behind)))
+    or_right (reads_positive_number.asks texts) _ (rw a (or_right (reads_positive_number.asks first) _ (rw b behind)))

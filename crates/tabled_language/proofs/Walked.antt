@@ -1,12 +1,12 @@
 -- A walk over rectangles row by row.
-use Rattle.tabled_language.proofs.Common.{[], ◌++◌, ◌+◌, ◌<◌, ◌∙◌, ◌∷◌, ◌≡◌, ◌≤◌, ◌⊎◌, AreBeside, AreKeyed, BTreeMap, Bool, EndsAbove, IsBeside, IsClear, IsLeft, IsMet, List, Meets, Rectangle, RowsRise, and_from, and_right, ap, arith, cond, drop, false, false_from_ne_true, get, get_or, get_or_default, has_place, inl, inr, is_eq, length, lie_well, lies_inside, meets, meets-from, meets-true, nat_cmp, nat_tests, not_from_false, refl, same_Some, subst, sym, take, take-append-drop, take_more, true, true≢false, ℕ}
+use Rattle.tabled_language.proofs.Common.{[], ◌++◌, ◌+◌, ◌<◌, ◌∙◌, ◌∷◌, ◌≡◌, ◌≤◌, ◌⊎◌, AreBeside, AreKeyed, BTreeMap, Bool, EndsAbove, IsBeside, IsClear, DropsEnded, IsMet, List, Meets, Rectangle, RowsRise, and_from, and_right, ap, arith, cond, drop, false, false_from_ne_true, get, get_or, get_or_default, has_place, inl, inr, is_eq, length, lie_well, lies_inside, meets, meets-from, meets-true, nat_cmp, nat_tests, not_from_false, refl, same_Some, subst, sym, take, take-append-drop, take_more, true, true≢false, ℕ}
 use Rattle.std.specs.Prelude.{Some, not}
 use Rattle.tabled_grid.proofs.Members.{Member, any-from, any-member, member-either, member-left, member-right}
 use Rattle.tabled_language.proofs.PlacedAnchors.{well-left, well-push}
 
--- of the rectangles gone through those are kept that may reach a row or a later one
+-- of the rectangles gone through those are noted that may reach a row or a later one
 pub record IsWalked (done : List Rectangle) (m : BTreeMap ℕ Rectangle) (row : ℕ) : Type 0 where
-  pub kept : (f : Rectangle) → Member f done → EndsAbove row f ⊎ (get nat_cmp m f.first.col ≡ Some f)
+  pub noted : (f : Rectangle) → Member f done → EndsAbove row f ⊎ (get nat_cmp m f.first.col ≡ Some f)
   pub keyed : AreKeyed m
   pub begun : (q : ℕ) (f : Rectangle) → get nat_cmp m q ≡ Some f → (f.first.row ≤ row) × (1 ≤ f.size.width)
   pub beside : AreBeside row m
@@ -15,7 +15,7 @@ pub record IsWalked (done : List Rectangle) (m : BTreeMap ℕ Rectangle) (row : 
 -- what may reach a later row
 pub walked-later : (done : List Rectangle) (m : BTreeMap ℕ Rectangle) (row later : ℕ) → row ≤ later → IsWalked done m row → IsWalked done m later
 walked-later done m row later le h = record {
-  kept = λ f member. by f (h.kept f member);
+  noted = λ f member. by f (h.noted f member);
   keyed = h.keyed;
   begun = λ q f is. (let b = h.begun q f is in (omega (arith, le, b.0), b.1));
   beside = λ q r f g is other below reach reach_too. h.beside q r f g is other below (omega (arith, le, reach)) (omega (arith, le, reach_too));
@@ -43,7 +43,7 @@ clear_place rows columns done m e h clear inside = and_from _ _ inside (not_from
     by f (inr is) = clear f.first.col f is
 
     never : (f : Rectangle) × Member f done × (meets e f ≡ true) → ⊥
-    never (f, member, met) = true≢false (sym met ∙ apart_from e f (by f (h.kept f member)))
+    never (f, member, met) = true≢false (sym met ∙ apart_from e f (by f (h.noted f member)))
 
 -- or it has none
 pub met_place : (rows columns : ℕ) (done : List Rectangle) (m : BTreeMap ℕ Rectangle) (e : Rectangle) → IsWalked done m e.first.row → 1 ≤ e.size.height → IsMet m e → has_place rows columns done e ≡ false
@@ -52,7 +52,7 @@ met_place rows columns done m e h high (q, f, is, reach, right, left) =
     and_right _ _ (ap not (any-from (meets e) f done (h.among q f is) met))
 
 -- the map of those that may reach a row, with the anchor put in
-module _ (done : List Rectangle) (m kept new : BTreeMap ℕ Rectangle) (e : Rectangle) (h : IsWalked done m e.first.row) (wide : 1 ≤ e.size.width) (clear : IsClear m e) (left : IsLeft e.first.row m kept) (put : (q : ℕ) → get nat_cmp new q ≡ cond (is_eq (nat_cmp e.first.col q)) (Some e) (get nat_cmp kept q)) where
+module _ (done : List Rectangle) (m cleared new : BTreeMap ℕ Rectangle) (e : Rectangle) (h : IsWalked done m e.first.row) (wide : 1 ≤ e.size.width) (clear : IsClear m e) (drops : DropsEnded e.first.row m cleared) (put : (q : ℕ) → get nat_cmp new q ≡ cond (is_eq (nat_cmp e.first.col q)) (Some e) (get nat_cmp cleared q)) where
   -- the anchor itself, or one from before
   Old : ℕ → Rectangle → Type 0
   Old q f = ((q ≡ e.first.col) × (f ≡ e)) ⊎ (get nat_cmp m q ≡ Some f)
@@ -62,28 +62,28 @@ module _ (done : List Rectangle) (m kept new : BTreeMap ℕ Rectangle) (e : Rect
   old q f is = by (is_eq (nat_cmp e.first.col q)) refl
     where
       by : (b : Bool) → is_eq (nat_cmp e.first.col q) ≡ b → ((q ≡ e.first.col) × (f ≡ e)) ⊎ (get nat_cmp m q ≡ Some f)
-      by true t = inl (grind (arith, nat_tests), same_Some f e (sym is ∙ put q ∙ ap (λ b. cond b (Some e) (get nat_cmp kept q)) t))
-      by false t = inr (left.kept q f (sym (ap (λ b. cond b (Some e) (get nat_cmp kept q)) t) ∙ sym (put q) ∙ is))
+      by true t = inl (grind (arith, nat_tests), same_Some f e (sym is ∙ put q ∙ ap (λ b. cond b (Some e) (get nat_cmp cleared q)) t))
+      by false t = inr (drops.had q f (sym (ap (λ b. cond b (Some e) (get nat_cmp cleared q)) t) ∙ sym (put q) ∙ is))
 
   here : get nat_cmp new e.first.col ≡ Some e
-  here = (let t : is_eq (nat_cmp e.first.col e.first.col) ≡ true = grind (arith, nat_tests) in put e.first.col ∙ ap (λ b. cond b (Some e) (get nat_cmp kept e.first.col)) t)
+  here = (let t : is_eq (nat_cmp e.first.col e.first.col) ≡ true = grind (arith, nat_tests) in put e.first.col ∙ ap (λ b. cond b (Some e) (get nat_cmp cleared e.first.col)) t)
 
   stays : (f : Rectangle) → EndsAbove e.first.row f ⊎ (get nat_cmp m f.first.col ≡ Some f) → EndsAbove e.first.row f ⊎ (get nat_cmp new f.first.col ≡ Some f)
   stays f (inl above) = inl above
-  stays f (inr is) = by (left.gone f.first.col f is) (is_eq (nat_cmp e.first.col f.first.col)) refl
+  stays f (inr is) = by (drops.stays f.first.col f is) (is_eq (nat_cmp e.first.col f.first.col)) refl
     where
       beside : e.first.col ≡ f.first.col → EndsAbove e.first.row f ⊎ IsBeside e f → EndsAbove e.first.row f ⊎ (get nat_cmp new f.first.col ≡ Some f)
       beside same (inl above) = inl above
       beside same (inr (inl left)) = absurd (omega (arith, left, same, (h.begun f.first.col f is).1))
       beside same (inr (inr right)) = absurd (omega (arith, right, same, wide))
 
-      by : EndsAbove e.first.row f ⊎ (get nat_cmp kept f.first.col ≡ Some f) → (b : Bool) → is_eq (nat_cmp e.first.col f.first.col) ≡ b → EndsAbove e.first.row f ⊎ (get nat_cmp new f.first.col ≡ Some f)
+      by : EndsAbove e.first.row f ⊎ (get nat_cmp cleared f.first.col ≡ Some f) → (b : Bool) → is_eq (nat_cmp e.first.col f.first.col) ≡ b → EndsAbove e.first.row f ⊎ (get nat_cmp new f.first.col ≡ Some f)
       by (inl above) b t = inl above
       by (inr still) true t = beside (grind (arith, nat_tests)) (clear f.first.col f is)
-      by (inr still) false t = inr (put f.first.col ∙ ap (λ b. cond b (Some e) (get nat_cmp kept f.first.col)) t ∙ still)
+      by (inr still) false t = inr (put f.first.col ∙ ap (λ b. cond b (Some e) (get nat_cmp cleared f.first.col)) t ∙ still)
 
   all_stay : (f : Rectangle) → Member f done ⊎ Member f (e ∷ []) → EndsAbove e.first.row f ⊎ (get nat_cmp new f.first.col ≡ Some f)
-  all_stay f (inl before) = stays f (h.kept f before)
+  all_stay f (inl before) = stays f (h.noted f before)
   all_stay f (inr (inl is)) = inr (subst (λ (a : Rectangle). get nat_cmp new a.first.col ≡ Some a) (sym is) here)
   all_stay f (inr (inr none)) = absurd none
 
@@ -121,7 +121,7 @@ module _ (done : List Rectangle) (m kept new : BTreeMap ℕ Rectangle) (e : Rect
 
   pub walked-more : IsWalked (done ++ e ∷ []) new e.first.row
   walked-more = record {
-    kept = λ f member. all_stay f (member-either f done (e ∷ []) member);
+    noted = λ f member. all_stay f (member-either f done (e ∷ []) member);
     keyed = λ q f is. keyed q f (old q f is);
     begun = λ q f is. begun q f (old q f is);
     beside = λ q r f g is other below reach reach_too. beside q r f g (old q f is) (old r g other) below reach reach_too;
@@ -147,13 +147,13 @@ pub walked-here : (rows columns : ℕ) (es : List Rectangle) (k : ℕ) (m : BTre
 walked-here rows columns es k m e h within is = walked-later (take k es) m h.row e.first.row (subst (λ (a : Rectangle). h.row ≤ a.first.row) (sym is) (h.below e within)) h.walked
 
 -- one more
-pub has_walked-more : (rows columns : ℕ) (es : List Rectangle) (k : ℕ) (m kept new : BTreeMap ℕ Rectangle) (e : Rectangle) → HasWalked rows columns es k m → RowsRise es → k < length es → e ≡ get_or es k e → 1 ≤ e.size.width → lies_inside rows columns e ≡ true → IsClear m e → IsLeft e.first.row m kept → ((q : ℕ) → get nat_cmp new q ≡ cond (is_eq (nat_cmp e.first.col q)) (Some e) (get nat_cmp kept q)) → HasWalked rows columns es (k + 1) new
-has_walked-more rows columns es k m kept new e h up within is wide inside clear left put =
+pub has_walked-more : (rows columns : ℕ) (es : List Rectangle) (k : ℕ) (m cleared new : BTreeMap ℕ Rectangle) (e : Rectangle) → HasWalked rows columns es k m → RowsRise es → k < length es → e ≡ get_or es k e → 1 ≤ e.size.width → lies_inside rows columns e ≡ true → IsClear m e → DropsEnded e.first.row m cleared → ((q : ℕ) → get nat_cmp new q ≡ cond (is_eq (nat_cmp e.first.col q)) (Some e) (get nat_cmp cleared q)) → HasWalked rows columns es (k + 1) new
+has_walked-more rows columns es k m cleared new e h up within is wide inside clear drops put =
     let more : take (k + 1) es ≡ take k es ++ e ∷ [] = take_more es k e within ∙ ap (λ (a : Rectangle). take k es ++ a ∷ []) (sym is) in
     let at : IsWalked (take k es) m e.first.row = walked-here rows columns es k m e h within is in
     record {
       row = e.first.row;
-      walked = subst (λ (fs : List Rectangle). IsWalked fs new e.first.row) (sym more) (walked-more (take k es) m kept new e at wide clear left put);
+      walked = subst (λ (fs : List Rectangle). IsWalked fs new e.first.row) (sym more) (walked-more (take k es) m cleared new e at wide clear drops put);
       below = λ d next. by d next (up k d next);
       well = ap (lie_well rows columns) more ∙ well-push rows columns (take k es) e ∙ and_from _ _ h.well (clear_place rows columns (take k es) m e at clear inside);
     }

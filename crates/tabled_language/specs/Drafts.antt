@@ -44,14 +44,14 @@ abbrev pub shape_among : ℕ → List Line → Option Shape
 shape_among n [] = None
 shape_among n (line ∷ lines) = option_or (option_map (shape_at (n + 1)) (shape_in line)) (shape_among (n + 1) lines)
 
+-- the number of a line, if that says an anchor
+abbrev pub anchor_line : ℕ → Line → List ℕ
+anchor_line n line = map (λ (e : Rectangle). n) (filter_map anchor_in (line ∷ []))
+
 -- the number of the line of each anchor, among lines after n
 abbrev pub anchor_lines : ℕ → List Line → List ℕ
 anchor_lines n [] = []
-anchor_lines n (line ∷ lines) = go (anchor_in line) (anchor_lines (n + 1) lines)
-  where
-    go : Option Rectangle → List ℕ → List ℕ
-    go None numbers = numbers
-    go (Some anchor) numbers = (n + 1) ∷ numbers
+anchor_lines n (line ∷ lines) = anchor_line (n + 1) line ++ anchor_lines (n + 1) lines
 
 -- the draft of lines
 abbrev pub draft_of : List Line → Draft
@@ -68,6 +68,6 @@ with_line d n line = record {
   shape = option_or d.shape (option_map (shape_at n) (shape_in line));
   records = d.records ++ filter_map record_in (line ∷ []);
   anchors = d.anchors ++ filter_map anchor_in (line ∷ []);
-  lines = d.lines ++ map (λ (e : Rectangle). n) (filter_map anchor_in (line ∷ []));
+  lines = d.lines ++ anchor_line n line;
   steps = d.steps ++ filter_map step_in (line ∷ []);
 }

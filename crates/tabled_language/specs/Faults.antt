@@ -1,7 +1,7 @@
 -- The faults of a script: which comes first, and the number of each.
 use Rattle.std.specs.Prelude.{ℕ, ◌+◌, Bool, true, false, ◌==◌, ◌&&◌, List, [], ◌∷◌, ◌++◌, length, if◌then◌else◌, Option, None, Some, Result, Ok, Err, filter_map}
 use Rattle.std.specs.List.{list_all}
-use Rattle.std.specs.Option.{option_or}
+use Rattle.std.specs.Option.{option_map, option_or}
 use Rattle.tabled_grid.specs.Grid.{Grid}
 use Rattle.tabled_language.specs.declared.fault.Fault.{Fault}
 use Rattle.tabled_language.specs.declared.fault.Fault.TheVariants.{Escape, NumberRange, OutOfPlace, SelectorDepth, ShapeDiffers, SpanMisfits, UnknownWord, WordCount}
@@ -43,11 +43,7 @@ fault_of earlier line = if is_in_place earlier line then words_fault line else S
 -- the number of the first line at fault by a test and its fault, among lines after earlier ones
 abbrev pub first_fault : (List Line → Line → Option Fault) → List Line → List Line → Option (ℕ × Fault)
 first_fault fault_at earlier [] = None
-first_fault fault_at earlier (line ∷ lines) = go (fault_at earlier line) (first_fault fault_at (earlier ++ line ∷ []) lines)
-  where
-    go : Option Fault → Option (ℕ × Fault) → Option (ℕ × Fault)
-    go None later = later
-    go (Some fault) later = Some (length earlier + 1, fault)
+first_fault fault_at earlier (line ∷ lines) = option_or (option_map (λ fault. (length earlier + 1, fault)) (fault_at earlier line)) (first_fault fault_at (earlier ++ line ∷ []) lines)
 
 -- a fault where there is a value, unless that passes a test
 abbrev pub unless_it : {A : Type 0} → (A → Bool) → Fault → Option A → Option Fault
@@ -67,6 +63,11 @@ abbrev pub fault_among : List Line → Option (ℕ × Fault)
 fault_among lines =
     let g = table_from (filter_map record_in lines) in
     option_or (first_fault fault_of [] lines) (option_or (first_fault (shape_fault g) [] lines) (first_fault (span_fault g) [] lines))
+
+-- a value, or else the first faulty line and its fault
+abbrev pub if_faultless : {A : Type 0} → A → Option (ℕ × Fault) → Result A (ℕ × Fault)
+if_faultless x None = Ok x
+if_faultless x (Some fault) = Err fault
 
 -- the number that stands for a fault in what is written
 abbrev pub fault_number : Fault → ℕ

@@ -1,3 +1,4 @@
+pub mod Bare
 pub mod Drafts
 pub mod Faults
 pub mod Lent
@@ -7,7 +8,6 @@ pub mod Output
 pub mod Parsing
 pub mod Parts
 pub mod Placed
-pub mod Plain
 pub mod RoundTrip
 pub mod Script
 pub mod Selectors

@@ -1,7 +1,7 @@
 -- A line of a script, what it says, and the table of records.
 use Rattle.std.specs.Prelude.{ℕ, Bool, ◌==◌, ◌&&◌, not, List, [], ◌∷◌, Option, None, Some}
 use Rattle.std.specs.List.{list_any, slice_split}
-use Rattle.std.specs.Option.{option_map}
+use Rattle.std.specs.Option.{option_and_then, option_map}
 use Rattle.std.specs.Result.{result_ok}
 use Rattle.std.specs.Str.{is_utf8}
 use Rattle.tabled_grid.specs.Grid.{Grid}
@@ -27,11 +27,7 @@ has_byte b bytes = list_any (λ c. c == b) bytes
 -- the texts of words, or nothing where a word has none
 abbrev pub texts_of : List (List ℕ) → Option (List (List ℕ))
 texts_of [] = Some []
-texts_of (word ∷ words) = onto (text_of_word word) (texts_of words)
-  where
-    onto : Option (List ℕ) → Option (List (List ℕ)) → Option (List (List ℕ))
-    onto None texts = None
-    onto (Some text) texts = option_map (λ ts. text ∷ ts) texts
+texts_of (word ∷ words) = option_and_then (λ text. option_map (λ texts. text ∷ texts) (texts_of words)) (text_of_word word)
 
 -- what a line's texts say; the first is its verb
 abbrev pub meaning_of : Option (List (List ℕ)) → Line

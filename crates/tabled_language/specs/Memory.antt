@@ -1,7 +1,6 @@
 -- Where reading a script asks for memory.
-use Rattle.std.specs.Prelude.{ℕ, Bool, true, false, ◌&&◌, ◌||◌, codes, List, [], ◌∷◌, ◌++◌, if◌then◌else◌, Option, None, Some}
+use Rattle.std.specs.Prelude.{ℕ, Bool, true, false, ◌&&◌, ◌||◌, codes, List, [], ◌∷◌, ◌++◌, if◌then◌else◌, is_none}
 use Rattle.std.specs.Str.{bytes_eq}
-use Rattle.tabled_language.specs.declared.fault.Fault.{Fault}
 use Rattle.tabled_language.specs.Sizes.{reads_anchor}
 use Rattle.tabled_language.specs.Verb.{Line, RecordLine, says_span, steps}
 use Rattle.tabled_language.specs.Words.{behind, keeping_asks}
@@ -16,14 +15,17 @@ span_asks in_place texts = in_place (says_span texts) && keeping_asks reads_anch
 abbrev pub step_asks : List ℕ → List (List ℕ) → Bool
 step_asks verb texts = keeping_asks (behind steps verb) texts
 
--- reading words does, the first of them a verb. A shape takes none
+-- reading the texts after any verb but `row` does. A shape takes none
+abbrev pub verb_asks : (Line → Bool) → List ℕ → List (List ℕ) → Bool
+verb_asks in_place verb texts =
+    if bytes_eq verb (codes "shape") then false
+    else (if bytes_eq verb (codes "span") then span_asks in_place texts
+    else step_asks verb texts)
+
+-- reading words does, the first of them a verb
 abbrev pub words_ask : (Line → Bool) → List (List ℕ) → Bool
 words_ask in_place [] = false
-words_ask in_place (verb ∷ texts) =
-    if bytes_eq verb (codes "row") then in_place (RecordLine texts)
-    else (if bytes_eq verb (codes "shape") then false
-    else (if bytes_eq verb (codes "span") then span_asks in_place texts
-    else step_asks verb texts))
+words_ask in_place (verb ∷ texts) = if bytes_eq verb (codes "row") then in_place (RecordLine texts) else verb_asks in_place verb texts
 
 -- reading a line does; one that isn't plain asks for its texts
 abbrev pub line_asks : (Line → Bool) → List ℕ → Bool
@@ -32,11 +34,7 @@ line_asks in_place line = if is_plain line then words_ask in_place (words_of lin
 -- reading lines after earlier ones does: one of them up to the first that is faulty by itself. The checks of the whole ask for none but where a span did
 abbrev pub lines_ask : List Line → List (List ℕ) → Bool
 lines_ask earlier [] = false
-lines_ask earlier (line ∷ lines) = line_asks (is_in_place earlier) line || go (fault_of earlier (says_line line)) (lines_ask (earlier ++ says_line line ∷ []) lines)
-  where
-    go : Option Fault → Bool → Bool
-    go None later = later
-    go (Some fault) later = false
+lines_ask earlier (line ∷ lines) = line_asks (is_in_place earlier) line || (is_none (fault_of earlier (says_line line)) && lines_ask (earlier ++ says_line line ∷ []) lines)
 
 -- reading a script asks for memory before its first fault is found, or its end
 abbrev pub asks_memory : List ℕ → Bool

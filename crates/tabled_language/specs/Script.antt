@@ -1,11 +1,11 @@
 -- A script: its records, its merged cells and its steps, and which one bytes write.
-use Rattle.std.specs.Prelude.{ℕ, List, map, Option, None, Some, Result, Ok, Err, filter_map}
+use Rattle.std.specs.Prelude.{ℕ, List, map, Result, filter_map}
 use Rattle.tabled_grid.specs.Spans.{SpanMap}
 use Rattle.tabled_language.specs.declared.fault.Fault.{Fault}
 use Rattle.tabled_language.specs.Verb.{Line}
 use Rattle.tabled_steps.specs.States.{State}
 use Rattle.tabled_language.specs.Line.{anchor_in, says_line, lines_of, record_in, step_in, table_from}
-use Rattle.tabled_language.specs.Faults.{fault_among}
+use Rattle.tabled_language.specs.Faults.{fault_among, if_faultless}
 use Rattle.tabled_language.specs.Placed.{spans_of}
 
 -- the records, the merged cells and the steps of a script
@@ -24,11 +24,7 @@ script_of lines = record { records = filter_map record_in lines; spans = spans_o
 
 -- the script that lines are, or the number of the first faulty one and its fault
 abbrev pub script_or_fault : List Line → Result Script (ℕ × Fault)
-script_or_fault lines = go (fault_among lines)
-  where
-    go : Option (ℕ × Fault) → Result Script (ℕ × Fault)
-    go None = Ok (script_of lines)
-    go (Some fault) = Err fault
+script_or_fault lines = if_faultless (script_of lines) (fault_among lines)
 
 -- the script that bytes write, or the number of its first faulty line and the fault
 abbrev pub parse : List ℕ → Result Script (ℕ × Fault)

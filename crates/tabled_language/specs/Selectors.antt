@@ -29,9 +29,9 @@ range_selectors =
     ∷ (codes "segment", with_four_numbers select.Segment)
     ∷ []
 
--- the words of further selectors that hold no other and no text
-abbrev pub plain_selectors : Choices Named
-plain_selectors =
+-- the words of first and last rows and columns, and of ranges
+abbrev pub edge_selectors : Choices Named
+edge_selectors =
     (codes "first-row", gives (named_by select.FirstRow))
     ∷ (codes "last-row", gives (named_by select.LastRow))
     ∷ (codes "first-column", gives (named_by select.FirstColumn))
@@ -51,7 +51,7 @@ holding_selectors inner =
     ∷ (codes "inverse", then_reads inner (λ x. gives (λ g. others (x g) g.rows g.columns)))
     ∷ (codes "skip", then_reads reads_number (λ n. then_reads inner (λ x. gives (λ g. drop n (x g)))))
     ∷ (codes "step", then_reads reads_number (λ n. then_reads inner (λ x. gives (λ g. every n (x g)))))
-    ∷ plain_selectors
+    ∷ edge_selectors
 
 -- the words of selectors, where a selector that they hold is read by a reading
 abbrev pub selectors : Reading Named → Choices Named

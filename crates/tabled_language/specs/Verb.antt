@@ -22,7 +22,7 @@ use Rattle.tabled_language.specs.declared.fault.Fault.{Fault}
 use Rattle.tabled_language.specs.declared.fault.Fault.TheVariants.{WordCount}
 use Rattle.tabled_language.specs.Selectors.{reads_cells}
 use Rattle.tabled_language.specs.Sizes.{reads_anchor, reads_shape}
-use Rattle.tabled_language.specs.Words.{Choices, Reading, behind, gives, kept, then_reads, reads_count, reads_integer, reads_number, reads_one_of, reads_text, reads_two, whole}
+use Rattle.tabled_language.specs.Words.{Choices, Reading, behind, gives, kept, then_reads, reads_positive_number, reads_integer, reads_number, reads_one_of, reads_text, reads_two, whole}
 
 -- what a line says: nothing, a table's shape, a record, an anchor, what it makes of a table's state, or a fault.
 -- A shape and an anchor stand with the fault of their words: the line may be out of place before these are read
@@ -84,7 +84,7 @@ reads_rows rows columns = kept (record {
 
 -- a table of at least one row and one column: how many, and then its texts, row by row
 abbrev pub reads_table : Reading (Grid (List ℕ))
-reads_table = then_reads reads_count (λ rows. then_reads reads_count (λ columns. reads_rows rows columns))
+reads_table = then_reads reads_positive_number (λ rows. then_reads reads_positive_number (λ columns. reads_rows rows columns))
 
 -- a selector and a text to write
 abbrev pub reads_set : Reading (State → State)
@@ -196,10 +196,13 @@ says_span texts = SpanLine (whole reads_anchor texts)
 abbrev pub says_step : List ℕ → List (List ℕ) → Line
 says_step verb texts = step_line (whole (behind steps verb) texts)
 
+-- what any verb but `row` says with the texts after it
+abbrev pub says_verb : List ℕ → List (List ℕ) → Line
+says_verb verb texts =
+    if bytes_eq verb (codes "shape") then says_shape texts
+    else (if bytes_eq verb (codes "span") then says_span texts
+    else says_step verb texts)
+
 -- what a verb says with the texts after it
 abbrev pub says : List ℕ → List (List ℕ) → Line
-says verb texts =
-    if bytes_eq verb (codes "row") then RecordLine texts
-    else (if bytes_eq verb (codes "shape") then says_shape texts
-    else (if bytes_eq verb (codes "span") then says_span texts
-    else says_step verb texts))
+says verb texts = if bytes_eq verb (codes "row") then RecordLine texts else says_verb verb texts

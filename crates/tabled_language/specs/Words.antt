@@ -1,9 +1,9 @@
--- How the words of a line are read, from the left, and where that asks for memory.
+-- How the words of a line are read, from the front, and where that asks for memory.
 use Rattle.std.specs.Prelude.{ℕ, ℤ, Bool, false, ◌||◌, List, [], ◌∷◌, ◌==◌, if◌then◌else◌, Option, None, Some, Result, Ok, Err, is_ok}
 use Rattle.std.specs.Str.{bytes_eq}
 use Rattle.tabled_language.specs.declared.fault.Fault.{Fault}
 use Rattle.tabled_language.specs.declared.fault.Fault.TheVariants.{UnknownWord, WordCount, NumberRange}
-use Rattle.tabled_language.specs.Word.{integer_of, number_of, size_of}
+use Rattle.tabled_language.specs.Word.{integer_of, length_of, number_of}
 
 -- what was read from the front of texts, with the texts left, or the fault that was met
 abbrev pub Read : Type 0 → Type 0
@@ -22,17 +22,19 @@ gives x = record { reads = λ texts. Ok (x, texts); asks = λ texts. false }
 abbrev pub fails : {A : Type 0} → Fault → Reading A
 fails fault = record { reads = λ texts. Err fault; asks = λ texts. false }
 
--- one reading, and then another by what it gave
-abbrev pub then_reads : {A B : Type 0} → Reading A → (A → Reading B) → Reading B
-then_reads {A} {B} first next = record { reads = λ texts. go (first.reads texts); asks = λ texts. first.asks texts || later (first.reads texts) }
-  where
-    go : Read A → Read B
-    go (Ok read) = (next read.0).reads read.1
-    go (Err fault) = Err fault
+-- what is read next, by what was read
+abbrev pub reads_next : {A B : Type 0} → (A → Reading B) → Read A → Read B
+reads_next next (Ok read) = (next read.0).reads read.1
+reads_next next (Err fault) = Err fault
 
-    later : Read A → Bool
-    later (Ok read) = (next read.0).asks read.1
-    later (Err fault) = false
+-- this asks for memory
+abbrev pub asks_next : {A B : Type 0} → (A → Reading B) → Read A → Bool
+asks_next next (Ok read) = (next read.0).asks read.1
+asks_next next (Err fault) = false
+
+-- one reading, and then another by what it gave: memory is asked for where either asks for some
+abbrev pub then_reads : {A B : Type 0} → Reading A → (A → Reading B) → Reading B
+then_reads first next = record { reads = λ texts. reads_next next (first.reads texts); asks = λ texts. first.asks texts || asks_next next (first.reads texts) }
 
 -- what is read twice
 abbrev pub reads_two : {A : Type 0} → Reading A → Reading (A × A)
@@ -60,25 +62,25 @@ abbrev pub in_range : {A : Type 0} → Option A → Reading A
 in_range None = fails NumberRange
 in_range (Some x) = gives x
 
--- a number in range
+-- a number that a step may name
 abbrev pub reads_number : Reading ℕ
 reads_number = then_reads reads_word (λ text. in_range (number_of text))
 
--- a number in range, with a minus or none
+-- such a number, with a minus before it or none
 abbrev pub reads_integer : Reading ℤ
 reads_integer = then_reads reads_word (λ text. in_range (integer_of text))
 
--- a number of at least 1
-abbrev pub reads_count : Reading ℕ
-reads_count = then_reads reads_number (λ n. if n == 0 then fails NumberRange else gives n)
+-- a number of at least 1 that a step may name
+abbrev pub reads_positive_number : Reading ℕ
+reads_positive_number = then_reads reads_number (λ n. if n == 0 then fails NumberRange else gives n)
 
 -- a number that a shape or a span may name
-abbrev pub reads_size : Reading ℕ
-reads_size = then_reads reads_word (λ text. in_range (size_of text))
+abbrev pub reads_length : Reading ℕ
+reads_length = then_reads reads_word (λ text. in_range (length_of text))
 
--- such a number of at least 1
-abbrev pub reads_extent : Reading ℕ
-reads_extent = then_reads reads_size (λ n. if n == 0 then fails NumberRange else gives n)
+-- a number of at least 1 that a shape or a span may name
+abbrev pub reads_positive_length : Reading ℕ
+reads_positive_length = then_reads reads_length (λ n. if n == 0 then fails NumberRange else gives n)
 
 -- words, and what is read after each of them
 abbrev pub Choices : Type 0 → Type 0
@@ -93,18 +95,15 @@ behind ((name, reading) ∷ others) word = if bytes_eq word name then reading el
 abbrev pub reads_one_of : {A : Type 0} → Choices A → Reading A
 reads_one_of choices = then_reads reads_word (behind choices)
 
--- a value, where no word is left over
-abbrev pub if_no_word_left : {A : Type 0} → A → List (List ℕ) → Result A Fault
-if_no_word_left x [] = Ok x
-if_no_word_left x (text ∷ texts) = Err WordCount
+-- the value that was read, where no word is left over
+abbrev pub if_no_word_left : {A : Type 0} → Read A → Result A Fault
+if_no_word_left (Ok (x, [])) = Ok x
+if_no_word_left (Ok (x, text ∷ texts)) = Err WordCount
+if_no_word_left (Err fault) = Err fault
 
 -- what a reading gives of all of these texts
 abbrev pub whole : {A : Type 0} → Reading A → List (List ℕ) → Result A Fault
-whole {A} reading texts = go (reading.reads texts)
-  where
-    go : Read A → Result A Fault
-    go (Ok read) = if_no_word_left read.0 read.1
-    go (Err fault) = Err fault
+whole reading texts = if_no_word_left (reading.reads texts)
 
 -- what is read of all of these texts is kept: memory is asked for where the reading asks for some, or it is whole
 abbrev pub keeping_asks : {A : Type 0} → Reading A → List (List ℕ) → Bool

@@ -41,10 +41,10 @@ impl<'a> Draft<'a> {
     ghost use Rattle.tabled_language.specs.Drafts.{takes};
     ghost use Rattle.tabled_language.specs.Lent.{bytes_of};
     ghost use Rattle.tabled_language.specs.Line.{has_byte, says_line, meaning_of, words_of};
-    ghost use Rattle.tabled_language.specs.Memory.{line_asks, span_asks, step_asks};
+    ghost use Rattle.tabled_language.specs.Memory.{line_asks, span_asks, step_asks, verb_asks};
     ghost use Rattle.tabled_language.specs.Output.{IsOwnWord};
     ghost use Rattle.tabled_language.specs.Parsing.{DraftMeans, EndsDraft, IsPlaced, ReadsLine, ReadsWords, draft_in, script_in};
-    ghost use Rattle.tabled_language.specs.Verb.{RecordLine, says_shape, says_span, says_step};
+    ghost use Rattle.tabled_language.specs.Verb.{RecordLine, says_shape, says_span, says_step, says_verb};
 
     pub(crate) fn new(alloc: Global) -> Self
         ensures shape { result.shape ≡ None }
@@ -102,9 +102,7 @@ impl<'a> Draft<'a> {
                 self.records.push(lent_texts(alloc, words)?)?;
                 Ok(())
             }
-            Some("shape") => self.read_shape(number, Words::of_line(words)),
-            Some("span") => self.read_span(number, Words::of_line(words)),
-            Some(verb) => self.read_step(alloc, verb, Words::of_line(words)),
+            Some(verb) => self.read_verb(alloc, number, verb, Words::of_line(words)),
         }
     }
 
@@ -122,9 +120,18 @@ impl<'a> Draft<'a> {
                 self.records.push(texts)?;
                 Ok(())
             }
-            "shape" => self.read_shape(number, Words::of_texts(&texts)),
-            "span" => self.read_span(number, Words::of_texts(&texts)),
-            verb => self.read_step(alloc, verb, Words::of_texts(&texts)),
+            verb => self.read_verb(alloc, number, verb, Words::of_texts(&texts)),
+        }
+    }
+
+    /// Adds what any verb but `row` says with the words after it, or says why they aren't read.
+    fn read_verb(&mut self, alloc: Global, number: usize, verb: &str, words: Words) -> Read<()>
+        ensures { ReadsLine (draft_in self.old) number (says_verb verb.now words.entry) (verb_asks (takes (draft_in self.old)) verb.now words.entry) result (draft_in self.new) }
+    {
+        match verb {
+            "shape" => self.read_shape(number, words),
+            "span" => self.read_span(number, words),
+            verb => self.read_step(alloc, verb, words),
         }
     }
 

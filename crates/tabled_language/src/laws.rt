@@ -2,7 +2,7 @@
 
 ghost use Rattle.std.specs.Prelude.{◌≡◌, ℕ, List, false};
 ghost use Rattle.tabled_language.specs.Script.{parse};
-ghost use Rattle.tabled_language.specs.Plain.{has_either_word, plain_parse};
+ghost use Rattle.tabled_language.specs.Bare.{bare_parse, has_either_word};
 ghost use Rattle.tabled_language.specs.RoundTrip.{IsTable, ReadsBack};
 ghost use Rattle.tabled_steps.specs.States.{State};
 
@@ -13,5 +13,5 @@ pub fn what_is_written_is_read_back()
 
 /// A script in which no line begins with `shape` or `span` is its records and its steps.
 pub fn scripts_of_records_and_steps_keep_their_meaning()
-    ensures { (input : List ℕ) → has_either_word input ≡ false → parse input ≡ plain_parse input }
+    ensures { (input : List ℕ) → has_either_word input ≡ false → parse input ≡ bare_parse input }
 {}

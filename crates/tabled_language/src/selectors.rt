@@ -10,7 +10,7 @@ const LARGEST_DEPTH: usize = 64;
 
 impl<'a> Words<'a> {
     ghost use Rattle.tabled_language.specs.Parsing.{Reads};
-    ghost use Rattle.tabled_language.specs.Selectors.{holding_selectors, plain_selectors, range_selectors, reads_cells, reads_selector, selectors};
+    ghost use Rattle.tabled_language.specs.Selectors.{edge_selectors, holding_selectors, range_selectors, reads_cells, reads_selector, selectors};
     ghost use Rattle.tabled_language.specs.Words.{behind, kept, reads_two};
     ghost use Rattle.tabled_steps.specs.Selected.{named_by};
 
@@ -93,13 +93,13 @@ impl<'a> Words<'a> {
             "inverse" => Ok(Select::Inverse(self.inner(alloc, depth)?)),
             "skip" => Ok(Select::Skip(self.number()?, self.inner(alloc, depth)?)),
             "step" => Ok(Select::StepBy(self.number()?, self.inner(alloc, depth)?)),
-            _ => self.plain_selector(word),
+            _ => self.edge_selector(word),
         }
     }
 
-    /// What is after the word of a further selector that holds no other and no text.
-    fn plain_selector(&mut self, word: &str) -> Read<Select>
-        ensures { Reads named_by (behind plain_selectors word.now) self.old result self.new }
+    /// What is after the word of a first or last row or column, or of a range.
+    fn edge_selector(&mut self, word: &str) -> Read<Select>
+        ensures { Reads named_by (behind edge_selectors word.now) self.old result self.new }
     {
         match word {
             "first-row" => Ok(Select::FirstRow),

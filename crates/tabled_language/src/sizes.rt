@@ -14,8 +14,8 @@ impl<'a> Words<'a> {
     pub(crate) fn shape(&mut self) -> Read<(usize, usize)>
         ensures { Reads (λ shape. shape) reads_shape self.old result self.new }
     {
-        let rows = self.size()?;
-        let columns = self.size()?;
+        let rows = self.length()?;
+        let columns = self.length()?;
         Ok((rows, columns))
     }
 
@@ -24,8 +24,8 @@ impl<'a> Words<'a> {
         ensures read { Reads (λ anchor. anchor) reads_anchor self.old result self.new }
         ensures size { IfOk result (λ anchor. IsSpanSize anchor.size) }
     {
-        let row = self.size()?;
-        let column = self.size()?;
+        let row = self.length()?;
+        let column = self.length()?;
         let first = Position::new(row, column);
         let size = self.span_size()?;
         Ok(Rectangle { first, size })
@@ -36,8 +36,8 @@ impl<'a> Words<'a> {
         ensures read { Reads (λ size. size) reads_span_size self.old result self.new }
         ensures size { IfOk result IsSpanSize }
     {
-        let height = self.extent()?;
-        let width = self.extent()?;
+        let height = self.positive_length()?;
+        let width = self.positive_length()?;
         let size = Size { height, width };
         if size.is_cell() {
             return Err(Fault::NumberRange.into());

@@ -213,8 +213,8 @@ impl<'a> Words<'a> {
     fn table(&mut self, alloc: Global) -> Read<Table>
         ensures { Reads (λ table. map_grid string_bytes table.cells) reads_table self.old result self.new }
     {
-        let rows = self.count()?;
-        let columns = self.count()?;
+        let rows = self.positive_number()?;
+        let columns = self.positive_number()?;
         match rows.checked_mul(columns) {
             Some(many) if many <= self.left() => {
                 let cells = self.rows(alloc, rows, columns)?;

@@ -3,7 +3,7 @@
 ghost use Rattle.std.specs.Prelude.{◌≡◌, ◌+◌, ◌^◌, ◌<◌, IfOk, MatchBool, MatchOption, nat_le};
 ghost use Rattle.tabled_grid.specs.Anchors.{lie_well};
 ghost use Rattle.tabled_language.specs.Placed.{AreSpans};
-ghost use Rattle.tabled_language.specs.Walk.{AreBeside, AreKeyed, IsClear, IsLastBefore, IsLeft, IsMet, NoneBefore, RowsRise};
+ghost use Rattle.tabled_language.specs.Walk.{AreBeside, AreKeyed, DropsEnded, IsClear, IsLastBefore, IsMet, NoneBefore, RowsRise};
 
 use std::alloc::{AllocError, Global};
 use std::collections::BTreeMap;
@@ -11,7 +11,7 @@ use tabled_grid::config::Rectangle;
 
 /// Says whether all rectangles lie inside a table and no two share a cell.
 ///
-/// From row to row those are kept that may reach it, by their columns. Of these the last that begins before
+/// From row to row those are noted that may reach it, by their columns. Of these the last that begins before
 /// a rectangle's end is the only one that has to be tested. One that ends above goes when it is met, so
 /// that each comes and goes once.
 pub(crate) fn have_places(
@@ -40,7 +40,7 @@ fn is_clear(reaching: &mut BTreeMap<usize, Rectangle>, anchor: Rectangle) -> boo
     requires fits { anchor.first.col + anchor.size.width < 2 ^ 64 }
     requires keyed { AreKeyed reaching.old }
     requires beside { AreBeside anchor.first.row reaching.old }
-    ensures left { IsLeft anchor.first.row reaching.old reaching.new }
+    ensures drops { DropsEnded anchor.first.row reaching.old reaching.new }
     ensures clear { MatchBool result (IsClear reaching.old anchor) (IsMet reaching.old anchor) }
 {
     let end = anchor.first.col + anchor.size.width;

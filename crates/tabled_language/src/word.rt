@@ -5,7 +5,7 @@ ghost use Rattle.std.specs.Option.{option_map};
 ghost use Rattle.std.specs.String.{string_bytes};
 ghost use Rattle.tabled_language.specs.Lent.{bytes_of};
 ghost use Rattle.tabled_language.specs.Line.{has_byte};
-ghost use Rattle.tabled_language.specs.Word.{escape, integer_of, number_of, number_to, size_of, text_of_word, unescaped};
+ghost use Rattle.tabled_language.specs.Word.{escape, integer_of, length_of, number_of, number_to, text_of_word, unescaped};
 
 use crate::lent::LentText;
 use crate::plain::PlainText;
@@ -107,8 +107,8 @@ pub(crate) fn number_of(text: &str) -> Option<usize>
 }
 
 /// A number that a shape or a span may name.
-pub(crate) fn size_of(text: &str) -> Option<usize>
-    ensures { result ≡ size_of text.now }
+pub(crate) fn length_of(text: &str) -> Option<usize>
+    ensures { result ≡ length_of text.now }
 {
     number_to(usize::MAX, text)
 }

@@ -1,9 +1,9 @@
-//! The words of a line, read from the left as they come.
+//! The words of a line, read from the front as they come.
 
 use crate::fault::{Fault, ReadError};
 use crate::lent::LentText;
 use crate::text_parts::Fields;
-use crate::word::{integer_of, number_of, size_of};
+use crate::word::{integer_of, length_of, number_of};
 use std::alloc::Global;
 use std::marker::Model;
 use std::slice;
@@ -39,7 +39,7 @@ impl<'a> Words<'a> {
     ghost use Rattle.std.specs.String.{string_bytes};
     ghost use Rattle.tabled_language.specs.Lent.{bytes_of};
     ghost use Rattle.tabled_language.specs.Parsing.{Reads};
-    ghost use Rattle.tabled_language.specs.Words.{reads_count, reads_extent, reads_integer, reads_number, reads_size, reads_text, reads_two, reads_word};
+    ghost use Rattle.tabled_language.specs.Words.{reads_integer, reads_length, reads_number, reads_positive_length, reads_positive_number, reads_text, reads_two, reads_word};
     ghost use Rattle.tabled_language.specs.declared.fault.ReadError.TheVariants.{OutOfMemory};
 
     /// The words of a line without escapes.
@@ -83,6 +83,7 @@ impl<'a> Words<'a> {
         Ok(String::from_str(alloc, word)?)
     }
 
+    /// A number that a step may name.
     pub(crate) fn number(&mut self) -> Read<usize>
         ensures { Reads (λ number. number) reads_number self.old result self.new }
     {
@@ -101,6 +102,7 @@ impl<'a> Words<'a> {
         Ok((first, second))
     }
 
+    /// Such a number, with a minus before it or none.
     pub(crate) fn integer(&mut self) -> Read<isize>
         ensures { Reads (λ number. number) reads_integer self.old result self.new }
     {
@@ -111,9 +113,9 @@ impl<'a> Words<'a> {
         }
     }
 
-    /// A number of at least 1.
-    pub(crate) fn count(&mut self) -> Read<usize>
-        ensures { Reads (λ number. number) reads_count self.old result self.new }
+    /// A number of at least 1 that a step may name.
+    pub(crate) fn positive_number(&mut self) -> Read<usize>
+        ensures { Reads (λ number. number) reads_positive_number self.old result self.new }
     {
         let number = self.number()?;
         if number == 0 {
@@ -123,22 +125,22 @@ impl<'a> Words<'a> {
     }
 
     /// A number that a shape or a span may name.
-    pub(crate) fn size(&mut self) -> Read<usize>
-        ensures { Reads (λ number. number) reads_size self.old result self.new }
+    pub(crate) fn length(&mut self) -> Read<usize>
+        ensures { Reads (λ number. number) reads_length self.old result self.new }
     {
         let word = self.word()?;
-        match size_of(word) {
+        match length_of(word) {
             Some(number) => Ok(number),
             None => Err(Fault::NumberRange.into()),
         }
     }
 
-    /// Such a number of at least 1.
-    pub(crate) fn extent(&mut self) -> Read<usize>
-        ensures read { Reads (λ number. number) reads_extent self.old result self.new }
+    /// A number of at least 1 that a shape or a span may name.
+    pub(crate) fn positive_length(&mut self) -> Read<usize>
+        ensures read { Reads (λ number. number) reads_positive_length self.old result self.new }
         ensures some { IfOk result (λ number. 1 ≤ number) }
     {
-        let number = self.size()?;
+        let number = self.length()?;
         if number == 0 {
             return Err(Fault::NumberRange.into());
         }

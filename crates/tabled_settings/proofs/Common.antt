@@ -7,7 +7,6 @@ pub use Rattle.std.proofs.lemmas.List.{ext_get_or, get_or_at, get_or_past}
 pub use Rattle.std.proofs.lemmas.List.Edits.{Swapped, swapped_from_swap}
 pub use Rattle.std.proofs.lemmas.List.FromFn.{get_or-map-range_with_len, sum_by-map-range_with_len_more}
 pub use Rattle.std.proofs.lemmas.List.Kept.{AllPairs-from_increasing, IsStrictlyIncreasing-filter}
-pub use Rattle.std.proofs.lemmas.Nat.{div-mul-add}
 pub use Rattle.std.proofs.lemmas.Option.{slice_get_past, unwrap_or-slice_get}
 pub use Rattle.std.proofs.lemmas.Result.{on_err_weaker}
 pub use Rattle.std.proofs.lemmas.Simd.{map-map}
@@ -22,13 +21,13 @@ pub use Rattle.tabled_carry.proofs.Common.{Carries, HasArea, KeepsPlaces, LeadsB
 pub use Rattle.tabled_carry.proofs.RectanglesCarried.{carries_one, takes_one}
 pub use Rattle.tabled_grid.proofs.Across.{same_grid}
 pub use Rattle.tabled_grid.proofs.AddedLines.{added_blank, added_even, added_kept, back_read, front_read}
-pub use Rattle.tabled_grid.proofs.Common.{[], ◌&&◌, ◌*◌, ◌++◌, ◌+◌, ◌-◌, ◌/◌, ◌<◌, ◌==◌, ◌||◌, ◌∙◌, ◌∷◌, ◌≡◌, ◌≢◌, ◌≤◌, ◌⊎◌, AddsColumns, AddsRows, All-filter, All-from_recursion, AllByRecursion, Bool, Err, FillsThrough, Fits, Grid, IfSome, In, IsBinarySearchResult, IsEmptyWithoutRows, IsEven, IsInside, IsShapedAs, List, None, Ok, Option, Places, Result, Some, SpanMap, WritesText, across, add-one, all-append, and_parts, ap, append_assoc, ap₂, arith, block, cases_Bool, cases_eq, cases_lt, cell_at, common_steps, cond, count_along, count_by, count_of, cut_places, div-add-mod', div_below, div_ceil, eqb, eqb-true, false, false≢true, filter, filter-append, first_along, flat_map, get_or, get_or-set_other, get_or-set_same, get_or-take, get_or_default, grid_of, index_in_line, inl, inr, inside, into_iter_items, joined, keep_fitting, le-ltb, length, length-append, length-map, length-take-le, length_push, line_of, list_all, list_any, ltb-false, map, map-append, map-id, map-swap, map_grid, max, mod_below, names, nat_cmp, nat_lt, ne_eqb, nil_from_length, none-some, not, nth_piece, option_map, piece_index, place, place_in, range_with_len, rectangle, recursion_from_All, refl, replicate, row_fits, rules, same_Some, same_from_place, set, set-get_or, sized, slice_get, slice_get-get_or, subst, suc, swap, sym, take, take_all, transposed, transposed_rows, true, unwrap_or, with_cell, with_cells_swapped, zero, ℕ}
+pub use Rattle.tabled_grid.proofs.Common.{[], ◌&&◌, ◌*◌, ◌++◌, ◌+◌, ◌-◌, ◌/◌, ◌<◌, ◌==◌, ◌||◌, ◌∙◌, ◌∷◌, ◌≡◌, ◌≢◌, ◌≤◌, ◌⊎◌, AddsColumns, AddsRows, All-filter, All-from_recursion, AllByRecursion, Bool, Err, FillsThrough, Fits, Grid, IfSome, In, IsBinarySearchResult, IsEmptyWithoutRows, IsEven, IsInside, IsShapedAs, List, None, Ok, Option, Places, Result, Some, SpanMap, WritesText, across, add-one, all-append, and_parts, ap, append_assoc, ap₂, arith, block, cases_Bool, cases_eq, cases_lt, cell_at, common_steps, cond, count_along, count_by, count_of, cut_places, div-add-mod', div_below, div_ceil, eqb, eqb-true, false, false≢true, filter, filter-append, first_along, flat_map, get_or, get_or-set_other, get_or-set_same, get_or-take, get_or_default, grid_of, inl, inr, inside, into_iter_items, joined, keep_fitting, le-ltb, length, length-append, length-map, length-take-le, length_push, line_of, list_all, list_any, ltb-false, map, map-append, map-id, map-swap, map_grid, max, mod_below, names, nat_cmp, nat_lt, ne_eqb, nil_from_length, none-some, not, nth_piece, option_map, piece_index, place, place_in, range_with_len, rectangle, recursion_from_All, refl, replicate, row_fits, rules, same_Some, set, set-get_or, sized, slice_get, slice_get-get_or, subst, suc, swap, sym, take, take_all, transposed, transposed_rows, true, unwrap_or, with_cell, with_cells_swapped, zero, ℕ}
 pub use Rattle.tabled_grid.specs.declared.config.rectangle.Rectangle.{Rectangle}
 pub use Rattle.tabled_grid.proofs.FirstLines.{IsEven-first, either_way}
 pub use Rattle.tabled_grid.proofs.Grids.{IsEven-map_grid, IsEven-with_cell, cell_at-map_grid, cell_at-map_grid_some, cell_at-with_cell_other, cell_at-with_cell_same}
-pub use Rattle.tabled_grid.proofs.PiecePlaces.{across_is, fills_cut, line_is, pieces_take_once, place_is}
+pub use Rattle.tabled_grid.proofs.PiecePlaces.{across_is, fills_cut, line_is}
 pub use Rattle.tabled_grid.proofs.PiecesCut.{ComesFrom, IsCut, enough_pieces, some_pieces}
-pub use Rattle.tabled_grid.proofs.PiecesPut.{inside_of, one_piece, piece_line, same_count, same_place_in, same_shape, shape_after, source}
+pub use Rattle.tabled_grid.proofs.PiecesPut.{inside_of, piece_line, same_count, same_shape, shape_after, source}
 pub use Rattle.tabled_grid.proofs.Places.{inside-Column, inside-Row, inside-no_cell, inside-no_column, inside-no_row, places}
 pub use Rattle.tabled_grid.proofs.Resized.{IsEven-with_cells_swapped, IsEven-with_columns_swapped, IsEven-with_rows_swapped}
 pub use Rattle.tabled_grid.proofs.Transposed.{slice_get-some, slice_get-take}
@@ -47,7 +46,7 @@ pub use Rattle.tabled_grid.specs.declared.records.piece_order.PieceOrder.TheVari
 pub use Rattle.tabled_options.proofs.Common.{FirstWrites, OptionKeeps, Same, Write, with_writes}
 pub use Rattle.tabled_options.proofs.Shapes.{fits_kept, shape_texts, writes_keep}
 pub use Rattle.tabled_options.proofs.Writes.{some-first, some-later, some-next, some-none, writes-append}
-pub use Rattle.tabled_select.proofs.Common.{◌%◌, AlwaysYields, FoldsTo, IfOk-weaker, TellsLocated, append-nil, if◌then◌else◌, inside-Cell, inside-Global, inside-within, lt-ltb, min, mod-mul-add, text_at}
+pub use Rattle.tabled_select.proofs.Common.{◌%◌, AlwaysYields, FoldsTo, IfOk-weaker, TellsLocated, append-nil, if◌then◌else◌, inside-Cell, inside-Global, inside-within, lt-ltb, min, text_at}
 pub use Rattle.tabled_settings.specs.Charsets.{IsCleanByte, byte_stays, charset_writes, clean_text, is_set, mapped_writes, recoded, replaced, with_tabs}
 pub use Rattle.tabled_settings.specs.Contents.{AnswersContent, Asked, AskedAt, AskedByLine, AskedInTurn, joined_lines}
 pub use Rattle.tabled_settings.specs.Dups.{Duplicates, DuplicatesFirst, dup_writes, round_from, round_writes, rounds, source_texts}
@@ -55,7 +54,7 @@ pub use Rattle.tabled_settings.specs.Joined.{FillsTo, GrowsTo, HasBlank, JoinsAt
 pub use Rattle.tabled_settings.specs.Lines.{BringsLines, HasLines, KeepsLines, ReversesEnds, ReversesLines, indexes_in, is_marked, line_cells}
 pub use Rattle.tabled_settings.specs.PiecePlaces.{Splits, SplitsTable, glue_rows, glued, glued_line, kept_pieces, same_places, shown_lines, split_places, texts_along, thinned}
 pub use Rattle.tabled_settings.specs.PieceTexts.{has_text}
-pub use Rattle.tabled_settings.specs.Pieces.{cut_rows, has_pieces, is_text, oriented, piece, piece_at, split, staying, stays, stays_at}
+pub use Rattle.tabled_settings.specs.Pieces.{clean_split, cut_rows, has_pieces, is_text, oriented, piece, piece_at, split, staying, stays, stays_at}
 pub use Rattle.tabled_settings.specs.Places.{IsTakenOnce, lines_from}
 pub use Rattle.tabled_settings.specs.Rearranged.{Rearranges, Removes, ReversesTable, carried_if, columns_if, count_in, extracted, half_rotated, kept_lines, left_over, limit_end, part, quarter_of, removed, reversed, reversed_index, reverses, rotated, upside_down}
 pub use Rattle.tabled_settings.specs.Rewrites.{AnswersInTurn, Asking, Rewrites, RewritesAt, RewritesBefore, RewritesUntil}

@@ -1,18 +1,10 @@
 -- Pieces that are all kept, glued together.
 use Rattle.std.proofs.lemmas.Grind.{common_steps}
-use Rattle.tabled_settings.proofs.Common.{[], ◌%◌, ◌*◌, ◌+◌, ◌-◌, ◌/◌, ◌<◌, ◌∙◌, ◌≡◌, ◌≤◌, All-from_recursion, AllByRecursion, Axis, Bool, Columns, Concat, Grid, IsEven, List, PieceOrder, Retain, Rows, Some, Split, Zip, across, ap, ap₂, arith, back_read, cell_at, cond, count_along, cut_rows, div-add-mod', div-mul-add, div_below, div_ceil, enough_pieces, false, flat_map, front_read, get_or, get_or-map-range_with_len, get_or-range_with_len, glue_rows, glued, glued_line, has_pieces, length, length-append, length-map-range_with_len, length-range_with_len, length-take-le, lt-ltb, ltb-false, ltb-true, map, mod-mul-add, mod_below, nat_lt, nth_piece, oriented, piece_at, piece_index, place, range_with_len, refl, row_fits, slice_get, slice_get-get_or, slice_get-take, some_pieces, split, staying, suc, sym, true, zero, ℕ}
+use Rattle.tabled_settings.proofs.Common.{[], ◌%◌, ◌*◌, ◌+◌, ◌-◌, ◌/◌, ◌<◌, ◌∙◌, ◌≡◌, ◌≤◌, All-from_recursion, AllByRecursion, Axis, Bool, Columns, Concat, Grid, IsEven, List, PieceOrder, Retain, Rows, Some, Split, Zip, across, ap, ap₂, arith, back_read, cell_at, cond, count_along, cut_rows, div-add-mod', div_below, div_ceil, enough_pieces, false, flat_map, front_read, get_or, get_or-map-range_with_len, get_or-range_with_len, glue_rows, glued, glued_line, has_pieces, length, length-append, length-map-range_with_len, length-range_with_len, length-take-le, lt-ltb, ltb-false, ltb-true, map, mod_below, nat_lt, nth_piece, oriented, piece_at, piece_index, place, range_with_len, refl, row_fits, slice_get, slice_get-get_or, slice_get-take, some_pieces, split, staying, suc, sym, true, zero, ℕ}
 use Rattle.tabled_settings.proofs.PieceReads.{all_retained, cut_count, cut_even, cut_text, piece_text, same_by_lines, turned_across, turned_back, turned_cell, turned_columns, turned_count, turned_even, turned_rows}
+use Rattle.tabled_grid.proofs.PiecesPut.{piece_index_below, piece_of}
 use Rattle.tabled_settings.proofs.LineReads.{counted}
 use Rattle.tabled_settings.proofs.SameCells.{same_cells}
-
--- the piece of a line and a number
-pub piece_of : (o : PieceOrder) (lines pieces i k : ℕ) → i < lines → k < pieces → nth_piece o lines pieces (piece_index o lines pieces i k) ≡ (i, k)
-piece_of Zip lines pieces i k h l = ap₂ (λ (a b : ℕ). (a, b)) (div-mul-add i pieces k l) (mod-mul-add i pieces k l)
-piece_of Concat lines pieces i k h l = ap₂ (λ (a b : ℕ). (a, b)) (mod-mul-add k lines i h) (div-mul-add k lines i h)
-
-pub piece_index_below : (o : PieceOrder) (lines pieces i k : ℕ) → i < lines → k < pieces → piece_index o lines pieces i k < lines * pieces
-piece_index_below Zip lines pieces i k h l = omega (arith, row_fits i pieces lines pieces h (omega arith), l)
-piece_index_below Concat lines pieces i k h l = omega (arith, row_fits k lines pieces lines l (omega arith), h)
 
 -- blocks of as many items, one after the other
 module _ {A : Type 0} (f : ℕ → List A) (n : ℕ) where

@@ -1,8 +1,7 @@
 -- Where the cells of pieces come from, and where they go.
 use Rattle.std.proofs.lemmas.Grind.{common_steps}
-use Rattle.tabled_settings.proofs.Common.{[], ◌%◌, ◌*◌, ◌+◌, ◌/◌, ◌<◌, ◌∙◌, ◌≡◌, Axis, Bool, Clean, Columns, Display, FillsThrough, Grid, IfSome, IsCut, IsEven, IsInside, IsTakenOnce, KeepsLines, List, None, Option, PieceOrder, Places, Position, ReadsThrough, Retain, Rows, Some, SpanMap, Split, Splits, Takes, across, across_is, ap, ap₂, arith, carried, carried_if, cell_at, cond, count_along, count_of, cut_places, div-add-mod', div_below, div_ceil, enough_pieces, false, fills_cut, get_or, has_pieces, in_line, index_in_line, kept_pieces, length, line_cells, line_is, line_of, lines_from, lt-ltb, map_grid, mod_below, nat_lt, nth_piece, one_piece, oriented, piece_index, pieces_take_once, place_in, place_is, refl, same_from_place, same_place_in, same_places, shown_lines, split_places, subst, sym, thinned, true, true≢false, unwrap_or, ℕ}
-use Rattle.tabled_settings.proofs.Glued.{piece_index_below, piece_of}
-use Rattle.tabled_settings.proofs.Joins.{place_of}
+use Rattle.tabled_settings.proofs.Common.{[], ◌<◌, ◌∙◌, ◌≡◌, Axis, Bool, Clean, Columns, Display, FillsThrough, Grid, IfSome, IsCut, IsEven, IsInside, IsTakenOnce, KeepsLines, List, Option, Places, Position, ReadsThrough, Retain, Rows, SpanMap, Split, Splits, across, ap, ap₂, arith, carried, carried_if, cell_at, cond, count_along, count_of, cut_places, false, fills_cut, get_or, has_pieces, in_line, kept_pieces, length, line_cells, line_of, lines_from, map_grid, oriented, refl, same_places, shown_lines, split_places, subst, sym, thinned, true, true≢false, unwrap_or, ℕ}
+use Rattle.tabled_grid.proofs.PiecePlaces.{goes_once}
 use Rattle.tabled_settings.proofs.LineReads.{counted, lines_read}
 use Rattle.tabled_settings.proofs.PiecesDone.{CanBeCut, clean_counts, clean_done, clean_lines, has, pieces_need, retained_done}
 
@@ -88,73 +87,6 @@ module _ {A : Type 0} (text_of : A → List ℕ) (s : Split) (lines width : ℕ)
         unsplit = λ none. absurd (true≢false (sym is_cut ∙ none));
       }
 
-within_shape : (axis : Axis) (t b m n : ℕ) → t < m → b < n → ((place_in axis t b).row < count_of axis m n) × ((place_in axis t b).col < count_of axis n m)
-within_shape Rows t b m n h k = (h, k)
-within_shape Columns t b m n h k = (k, h)
-
-of_shape : (axis : Axis) (p : Position) (m n : ℕ) → p.row < count_of axis m n → p.col < count_of axis n m → (line_of axis p < m) × (line_of (across axis) p < n)
-of_shape Rows p m n h k = (h, k)
-of_shape Columns p m n h k = (k, h)
-
-module _ (s : Split) (lines width : ℕ) (q : Position) (index : 0 < s.index) (h : line_of s.lines q < lines) (l : line_of (across s.lines) q < width) where
-  abbrev pieces : ℕ
-  pieces = div_ceil width s.index
-
-  abbrev i : ℕ
-  i = line_of s.lines q
-
-  abbrev j : ℕ
-  j = line_of (across s.lines) q
-
-  abbrev at_cell : ℕ
-  at_cell = j % s.index
-
-  abbrev at_piece : ℕ
-  at_piece = piece_index s.behavior lines pieces i (j / s.index)
-
-  number_in : j / s.index < pieces
-  number_in = div_below j s.index pieces index (omega (arith, l, enough_pieces pieces s.index width index refl))
-
-  cell_in : at_cell < s.index
-  cell_in = mod_below j s.index index
-
-  piece_in : at_piece < lines * pieces
-  piece_in = piece_index_below s.behavior lines pieces i (j / s.index) h number_in
-
-  of_piece : nth_piece s.behavior lines pieces at_piece ≡ (i, j / s.index)
-  of_piece = piece_of s.behavior lines pieces i (j / s.index) h number_in
-
-  index_is : index_in_line s.behavior s.index lines pieces at_piece at_cell ≡ j
-  index_is = ap (λ (r : ℕ × ℕ). r.1 * s.index + at_cell) of_piece ∙ div-add-mod' j s.index
-
-  takes : cond (nat_lt (index_in_line s.behavior s.index lines pieces (line_of s.lines (place_in s.lines at_piece at_cell)) (line_of (across s.lines) (place_in s.lines at_piece at_cell))) width) (Some (place_in s.lines (nth_piece s.behavior lines pieces (line_of s.lines (place_in s.lines at_piece at_cell))).0 (index_in_line s.behavior s.index lines pieces (line_of s.lines (place_in s.lines at_piece at_cell)) (line_of (across s.lines) (place_in s.lines at_piece at_cell))))) None ≡ Some q
-  takes = grind (arith, common_steps, line_is, across_is, lt-ltb, index_is, of_piece, place_is)
-
-  alone : (p : Position) → p.row < count_of s.lines (lines * pieces) s.index → p.col < count_of s.lines s.index (lines * pieces) → (cut_places s.lines s.behavior s.index lines width).old_place p ≡ Some q → p ≡ place_in s.lines at_piece at_cell
-  alone p row col e =
-      let within = of_shape s.lines p (lines * pieces) s.index row col in
-      let same : place_in s.lines (nth_piece s.behavior lines pieces (line_of s.lines p)).0 (index_in_line s.behavior s.index lines pieces (line_of s.lines p) (line_of (across s.lines) p)) ≡ place_in s.lines i j =
-      place_of (nat_lt (index_in_line s.behavior s.index lines pieces (line_of s.lines p) (line_of (across s.lines) p)) width) (place_in s.lines (nth_piece s.behavior lines pieces (line_of s.lines p)).0 (index_in_line s.behavior s.index lines pieces (line_of s.lines p) (line_of (across s.lines) p))) q e
-      ∙ sym (place_is s.lines q) in
-      let parts = same_place_in s.lines _ _ _ _ same in
-      let numbers = same_from_place (nth_piece s.behavior lines pieces (line_of s.lines p)).1 (line_of (across s.lines) p) (j / s.index) at_cell s.index within.1 cell_in (parts.1 ∙ sym (div-add-mod' j s.index)) in
-      let piece : line_of s.lines p ≡ at_piece = one_piece s.behavior lines pieces (line_of s.lines p) at_piece (parts.0 ∙ sym (ap (λ (r : ℕ × ℕ). r.0) of_piece)) (numbers.0 ∙ sym (ap (λ (r : ℕ × ℕ). r.1) of_piece)) in
-      sym (place_is s.lines p) ∙ ap₂ (λ (a b : ℕ). place_in s.lines a b) piece numbers.1
-
-  pub cut_once : IsTakenOnce (cut_places s.lines s.behavior s.index lines width) q
-  cut_once = record {
-    to = place_in s.lines at_piece at_cell;
-    row = (within_shape s.lines at_piece at_cell (lines * div_ceil width s.index) s.index piece_in cell_in).0;
-    col = (within_shape s.lines at_piece at_cell (lines * div_ceil width s.index) s.index piece_in cell_in).1;
-    takes = takes;
-    alone = alone;
-  }
-
-  -- which is in the piece of its number
-  pub cut_to : cut_once.to ≡ place_in s.lines (piece_index s.behavior lines (div_ceil width s.index) (line_of s.lines q) (line_of (across s.lines) q / s.index)) (line_of (across s.lines) q % s.index)
-  unfolding cut_once
-  cut_to = refl
-
 pub split_once : (s : Split) (g : Grid (List ℕ)) (q : Position) → s.display ≡ Retain → q.row < g.rows → q.col < g.columns → IsTakenOnce (split_places s g) q
 split_once s g q retained h k = either (has_pieces s g.rows g.columns) refl
   where
@@ -167,34 +99,10 @@ split_once s g q retained h k = either (has_pieces s g.rows g.columns) refl
 
     either : (b : Bool) → has_pieces s g.rows g.columns ≡ b → IsTakenOnce (cond b (shown_lines s.display s.lines (kept_pieces s (oriented s.lines g)) all) (same_places g.rows g.columns)) q
     either true e =
-        let some : 0 < s.index = (pieces_need s g e).1 in
+        let need = pieces_need s g e in
+        let some : 0 < count_of s.lines g.rows g.columns = omega (arith, (lines_of s.lines).0) in
+        let narrow = rw (← counted (across s.lines) g) at need.2 in
+        let goes = goes_once s.lines s.behavior s.index _ _ some need.1 narrow q (lines_of s.lines).0 (lines_of s.lines).1 in
         subst (λ (places : Places). IsTakenOnce places q) (sym (all_shown s.display s.lines (kept_pieces s (oriented s.lines g)) all retained))
-        (cut_once s (count_of s.lines g.rows g.columns) (count_of (across s.lines) g.rows g.columns) q some (lines_of s.lines).0 (lines_of s.lines).1)
+        (record { to = _; row = goes.0.row; col = goes.0.col; takes = goes.1; alone = λ p row col. goes.2 p (record { row = row; col = col }) })
     either false e = record { to = q; row = h; col = k; takes = refl; alone = λ p at_row at_col is. ap (λ (o : Option Position). unwrap_or o p) is }
-
--- one that comes to a new place stood in a line
-pub cut_inside : (axis : Axis) (order : PieceOrder) (index lines width : ℕ) (p q : Position) → 0 < lines → 0 < index → index < width → Takes (cut_places axis order index lines width) p q → (line_of axis q < lines) × (line_of (across axis) q < width)
-cut_inside Rows order index lines width p q some any narrow t =
-    let g : Grid ℕ = record { rows = lines; columns = width; cells = [] } in
-    let i = (pieces_take_once Rows order index lines width some any narrow g refl refl).inside p q (record { row = t.row; col = t.col }) t.from in
-    (i.row, i.col)
-cut_inside Columns order index lines width p q some any narrow t =
-    let g : Grid ℕ = record { rows = width; columns = lines; cells = [] } in
-    let i = (pieces_take_once Columns order index lines width some any narrow g refl refl).inside p q (record { row = t.row; col = t.col }) t.from in
-    (i.col, i.row)
-
-module _ (s : Split) (lines width : ℕ) (q to : Position) (line cell nth : ℕ) (index : 0 < s.index) (at : line ≡ line_of s.lines q) (in_line : cell ≡ line_of (across s.lines) q) (h : line < lines) (l : cell < width) (n : nth ≡ piece_index s.behavior lines (div_ceil width s.index) line (cell / s.index)) (is : to ≡ place_in s.lines nth (cell % s.index)) where
-  abbrev once : IsTakenOnce (cut_places s.lines s.behavior s.index lines width) q
-  once = cut_once s lines width q index (omega (arith, at, h)) (omega (arith, in_line, l))
-
-  same : to ≡ (cut_once s lines width q index (omega (arith, at, h)) (omega (arith, in_line, l))).to
-  same =
-      is ∙ ap (λ (t : ℕ). place_in s.lines t (cell % s.index)) n
-      ∙ ap₂ (λ (i j : ℕ). place_in s.lines (piece_index s.behavior lines (div_ceil width s.index) i (j / s.index)) (j % s.index)) at in_line
-      ∙ sym (cut_to s lines width q index (omega (arith, at, h)) (omega (arith, in_line, l)))
-
-  pub cut_takes : Takes (cut_places s.lines s.behavior s.index lines width) to q
-  cut_takes = subst (λ (p : Position). Takes (cut_places s.lines s.behavior s.index lines width) p q) (sym same) (record { row = once.row; col = once.col; from = once.takes })
-
-  pub cut_finds : (p : Position) → Takes (cut_places s.lines s.behavior s.index lines width) p q → to ≡ p
-  cut_finds p t = same ∙ sym (once.alone p t.row t.col t.from)

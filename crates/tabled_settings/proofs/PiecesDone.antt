@@ -1,8 +1,8 @@
 -- The texts of lines that are pieces.
 use Rattle.std.proofs.lemmas.Grind.{common_steps}
-use Rattle.tabled_settings.proofs.Common.{[], ◌*◌, ◌+◌, ◌-◌, ◌<◌, ◌∙◌, ◌≡◌, ◌≢◌, ◌≤◌, ◌⊎◌, Axis, Bool, Clean, Columns, ComesFrom, Display, Grid, IsCut, IsEven, IsEven-map_grid, IsInside, IsStrictlyIncreasing, IsStrictlyIncreasing-filter, KeepsLines, List, None, Option, Retain, Rows, Some, Split, across, ap, ap₂, arith, cases_lt, cell_at, cell_at-map_grid, cell_at-map_grid_some, cond, count_along, count_of, div_ceil, enough_pieces, eqb, false, filter, get_or, get_or-range_with_len, get_or_default, has_pieces, has_text, inl, inr, inside_of, is_text, kept_pieces, length, length-range_with_len, line_cells, list_any, lt-ltb, ltb-true, map_grid, min, ne_eqb, nth_piece, option_map, oriented, piece_at, piece_line, place_in, range_with_len, refl, some_pieces, source, split, staying, stays, stays_at, subst, sym, true, unwrap_or, unwrap_or-slice_get, ℕ}
+use Rattle.tabled_settings.proofs.Common.{[], ◌*◌, ◌+◌, ◌-◌, ◌<◌, ◌∙◌, ◌≡◌, ◌≢◌, ◌≤◌, ◌⊎◌, Axis, Bool, Clean, Columns, ComesFrom, Display, Grid, IsCut, IsEven, IsEven-map_grid, IsInside, IsStrictlyIncreasing, IsStrictlyIncreasing-filter, KeepsLines, List, None, Option, Retain, Rows, Some, Split, across, ap, ap₂, arith, cases_lt, cell_at, cell_at-map_grid, cell_at-map_grid_some, clean_split, cond, count_along, count_of, div_ceil, enough_pieces, eqb, false, filter, get_or, get_or-range_with_len, get_or_default, has_pieces, has_text, inl, inr, inside_of, is_text, kept_pieces, length, length-range_with_len, line_cells, list_any, lt-ltb, ltb-true, map_grid, min, ne_eqb, nth_piece, option_map, oriented, piece_at, piece_line, place_in, range_with_len, refl, some_pieces, source, split, staying, stays, stays_at, subst, sym, true, unwrap_or, unwrap_or-slice_get, ℕ}
 use Rattle.std.proofs.lemmas.List.Folds.{list_any_at, list_any_none}
-use Rattle.tabled_settings.specs.declared.cuts.Cut.{Cut}
+use Rattle.tabled_grid.specs.declared.records.pieces.Cut.{Cut}
 use Rattle.tabled_settings.proofs.LineReads.{counted}
 use Rattle.tabled_settings.proofs.SameCells.{none_outside}
 use Rattle.tabled_settings.proofs.PieceReads.{all_retained, at_line, filter_below, filter_some, first_number, length-piece, piece_text, pieces_are, some_inside, turned_cell, turned_columns, turned_even, turned_rows}
@@ -33,8 +33,8 @@ pub record CanBeCut {A : Type 0} (s : Split) (lines width : ℕ) (g : Grid A) : 
   pub index : 0 < s.index
   pub narrow : s.index < width
 
-pub can_be_cut : {A : Type 0} (cut : Cut) (g : Grid A) → IsEven g → cut.lines ≡ count_along cut.split.lines g → cut.width ≡ count_along (across cut.split.lines) g → CanBeCut cut.split cut.lines cut.width g
-can_be_cut cut g even count wide = record { even = even; count = count; wide = wide; some = cut.some; index = cut.index; narrow = cut.narrow }
+pub can_be_cut : {A : Type 0} (cut : Cut) (g : Grid A) → IsEven g → cut.lines ≡ count_along cut.axis g → cut.width ≡ count_along (across cut.axis) g → CanBeCut (clean_split cut) cut.lines cut.width g
+can_be_cut cut g even count wide = record { even = even; count = count; wide = wide; some = cut.some; index = cut.some_cells; narrow = cut.narrow }
 
 module _ {A : Type 0} (text_of : A → List ℕ) (s : Split) (lines width : ℕ) (g : Grid A) (can : CanBeCut s lines width g) where
   abbrev pieces : ℕ

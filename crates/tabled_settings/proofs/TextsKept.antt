@@ -2,7 +2,8 @@
 use Rattle.std.proofs.lemmas.Grind.{common_steps}
 use Rattle.tabled_settings.proofs.Common.{[], ◌*◌, ◌++◌, ◌+◌, ◌<◌, ◌||◌, ◌∙◌, ◌∷◌, ◌≡◌, ◌≤◌, All-from_recursion, AllByRecursion, Bool, Clean, Concat, Display, Grid, IsEven, List, PieceOrder, Retain, Split, Zip, ap, arith, cases_Bool, cond, cut_rows, div_ceil, enough_pieces, false, filter, filter-append, get_or, has_pieces, inl, inr, is_text, joined, length, list_any, map, nth_piece, oriented, piece, piece_at, piece_index, range_with_len, refl, some_pieces, split, stays, sum_by, sym, texts_along, true, true≢false, ℕ}
 use Rattle.std.specs.Prelude.{count_by}
-use Rattle.tabled_settings.proofs.Glued.{turned_back_twice, piece_of}
+use Rattle.tabled_settings.proofs.Glued.{turned_back_twice}
+use Rattle.tabled_grid.proofs.PiecesPut.{piece_of}
 use Rattle.tabled_settings.proofs.PieceReads.{cut_count, cut_even, filter_some, first_number, turned_columns, turned_even, turned_rows}
 use Rattle.tabled_settings.proofs.PiecesDone.{pieces_need}
 use Rattle.tabled_settings.proofs.Sums.{count_by-filter, sum_by-joined, sum_by-places, sum_by-range, sum_to, sum_to-alike, sum_to-blocks, sum_to-swap}

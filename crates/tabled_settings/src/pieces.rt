@@ -5,15 +5,13 @@ ghost use Rattle.std.specs.Int.{div_ceil};
 ghost use Rattle.tabled_grid.specs.Along.{count_along};
 ghost use Rattle.tabled_grid.specs.Axis.{across};
 ghost use Rattle.tabled_grid.specs.Grid.{map_grid};
-ghost use Rattle.tabled_settings.specs.declared.split.Display.TheVariants.{Clean};
 ghost use Rattle.tabled_settings.specs.PiecePlaces.{kept_pieces};
-ghost use Rattle.tabled_settings.specs.Pieces.{oriented, stays_in};
+ghost use Rattle.tabled_settings.specs.Pieces.{clean_split, oriented, stays_in};
 ghost use Rattle.tabled_settings.specs.PieceTexts.{NoText, SomeText};
 
-use crate::cuts::Cut;
 use std::alloc::{AllocError, Global};
 use std::ops::Range;
-use tabled_grid::records::{Axis, CellText, ExactRecords, PeekableRecords, Records};
+use tabled_grid::records::{Axis, CellText, Cut, ExactRecords, PeekableRecords, Records};
 
 /// Which pieces of lines stay that are to be cut, in order: the first one of each line, and of the others
 /// those with a text.
@@ -26,10 +24,9 @@ where
     R: Records + ExactRecords + PeekableRecords,
     R::Cell: CellText,
     requires well { R.is_well_formed records.now }
-    requires lines { cut.now.lines ≡ count_along cut.now.split.lines (R.grid records.now) }
-    requires width { cut.now.width ≡ count_along (across cut.now.split.lines) (R.grid records.now) }
-    requires clean { cut.now.split.display ≡ Clean }
-    ensures { IfOk result (λ kept. kept.items ≡ kept_pieces cut.now.split (oriented cut.now.split.lines (map_grid R.Cell.text_of (R.grid records.now)))) }
+    requires lines { cut.now.lines ≡ count_along cut.now.axis (R.grid records.now) }
+    requires width { cut.now.width ≡ count_along (across cut.now.axis) (R.grid records.now) }
+    ensures { IfOk result (λ kept. kept.items ≡ kept_pieces (clean_split cut.now) (oriented cut.now.axis (map_grid R.Cell.text_of (R.grid records.now)))) }
 {
     let mut kept = Vec::new(alloc);
     for nth in 0..cut.lines * cut.pieces {
@@ -46,17 +43,16 @@ where
     R: Records + ExactRecords + PeekableRecords,
     R::Cell: CellText,
     requires well { R.is_well_formed records.now }
-    requires lines { cut.now.lines ≡ count_along cut.now.split.lines (R.grid records.now) }
-    requires width { cut.now.width ≡ count_along (across cut.now.split.lines) (R.grid records.now) }
-    requires clean { cut.now.split.display ≡ Clean }
+    requires lines { cut.now.lines ≡ count_along cut.now.axis (R.grid records.now) }
+    requires width { cut.now.width ≡ count_along (across cut.now.axis) (R.grid records.now) }
     requires within { nth < cut.now.lines * cut.now.pieces }
-    ensures { result ≡ stays_in cut.now.split (div_ceil cut.now.width cut.now.split.index) (map_grid R.Cell.text_of (R.grid records.now)) nth }
+    ensures { result ≡ stays_in (clean_split cut.now) (div_ceil cut.now.width cut.now.index) (map_grid R.Cell.text_of (R.grid records.now)) nth }
 {
-    let index = cut.split.index;
-    let (line, number) = cut.split.behavior.nth_piece(cut.lines, cut.pieces, nth);
+    let index = cut.index;
+    let (line, number) = cut.order.nth_piece(cut.lines, cut.pieces, nth);
     let start = number * index;
     let end = start + index.min(cut.width - start);
-    number == 0 || has_text(records, cut.split.lines, line, start..end)
+    number == 0 || has_text(records, cut.axis, line, start..end)
 }
 
 /// Whether some cells of a line have a text.

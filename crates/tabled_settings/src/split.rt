@@ -8,13 +8,15 @@ ghost use Rattle.tabled_settings.specs.PiecePlaces.{SplitsTable};
 ghost use Rattle.tabled_settings.specs.Pieces.{has_pieces};
 ghost use Rattle.std.proofs.Common.{rules};
 
-use crate::cuts::{CleanCut, Cut};
+use crate::cuts::CleanCut;
 use crate::{lines, pieces};
 use std::alloc::{AllocError, Global};
 use tabled_carry::FittingSpans;
 use tabled_grid::config::{Entity, SpannedConfig};
 pub use tabled_grid::records::PieceOrder as Behavior;
-use tabled_grid::records::{Axis, CellText, ExactRecords, PeekableRecords, Records, Resizable};
+use tabled_grid::records::{
+    Axis, CellText, Cut, ExactRecords, PeekableRecords, Records, Resizable,
+};
 use tabled_options::TableOption;
 
 /// Whether pieces without a text stay.
@@ -161,7 +163,9 @@ where
             return Err(AllocError);
         }
         let cut = Cut {
-            split: self,
+            axis: self.lines,
+            order: self.behavior,
+            index: self.index,
             lines,
             width,
             pieces,

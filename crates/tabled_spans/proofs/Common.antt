@@ -34,7 +34,7 @@ pub use Rattle.tabled_options.proofs.Common.{DoesFirstWrites, FirstWrites, Optio
 pub use Rattle.tabled_options.proofs.Results.{on_err}
 pub use Rattle.tabled_select.proofs.Common.{append-nil, eq-eqb, get_or-replicate, if◌then◌else◌, inside-within, min}
 pub use Rattle.tabled_spans.specs.Panels.{Panels, PutsIn, has_room, with_line_at, with_panel}
-pub use Rattle.tabled_spans.specs.RunSteps.{AreInBlock, AreTails, Before, IsOfRun, IsTail, RunAt, RunsFrom, StandBelow}
+pub use Rattle.tabled_spans.specs.RunSteps.{AreInBlock, AreTails, Before, IsBand, IsOfRun, IsTail, RunAt, RunsFrom, RunsOf, StandBelow}
 pub use Rattle.tabled_spans.specs.Runs.{IsNamed, IsRun, Joins, MergesRuns, NamesNoNeighbours, further, is_free, size_of_run}
 pub use Rattle.tabled_spans.specs.SpanSteps.{InReach, IsReach, change_at}
 pub use Rattle.tabled_spans.specs.Spanned.{IsFlat, Spans, SpansFirst, are_visible, back_of, emptying, grown, grown_at, grown_each, pull_writes, pull_writes_on, pulled, pulled_at, pulled_each, pulling, span_writes, spanned, stretch, taken, with_visible_span}

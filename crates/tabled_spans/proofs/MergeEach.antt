@@ -4,7 +4,7 @@ use Rattle.std.specs.FinMap.{find}
 use Rattle.std.specs.FinMap.Entries.{find-where_key}
 use Rattle.tabled_grid.proofs.Members.{sorted-filter}
 use Rattle.tabled_grid.proofs.SortedEntries.{find_at, pairs-filter}
-use Rattle.tabled_spans.proofs.Common.{[], ◌<◌, ◌∙◌, ◌∷◌, ◌≡◌, ◌≤◌, ◌⊎◌, AllByRecursion, AreSorted, Axis, Bool, Columns, Entity, Grid, IsInside, IsOfRun, IsRun, IsSizeAt, Joins, List, MergesRuns, None, Option, Position, Rectangle, Rows, RunsFrom, Size, Some, SpanMap, T, across, ap, ap₂, arith, cases_Bool, cases_place, cond, count_along, false, false≢true, filter, find, further, get, inl, inr, is_eq, is_sorted, lines_in, map_grid, none-some, not, positions_exact, positions_total, refl, same_Some, same_map, size_of_run, subst, sym, tied, true, untied, with_sizes, ℕ}
+use Rattle.tabled_spans.proofs.Common.{[], ◌<◌, ◌∙◌, ◌∷◌, ◌≡◌, ◌≤◌, ◌⊎◌, AllByRecursion, AreSorted, Axis, Bool, Columns, Entity, Grid, In, IsInside, IsOfRun, IsRun, IsSizeAt, Joins, List, MergesRuns, None, Option, Position, Rectangle, Rows, RunsFrom, RunsOf, Size, Some, SpanMap, across, ap, ap₂, arith, cases_Bool, cases_place, cond, count_along, false, false≢true, filter, find, further, get, inl, inr, is_eq, lines_in, map_grid, none-some, not, positions_exact, positions_total, refl, same_Some, same_map, size_of_run, subst, sym, tied, true, untied, with_sizes, ℕ}
 use Rattle.tabled_grid.specs.declared.config.entity.Entity.TheVariants.{Global}
 use Rattle.tabled_grid.specs.Spans.{pairs, position_cmp, rectangle}
 use Rattle.tabled_options.specs.Does.{Change, Each, EachUntil, Same, SameOr}
@@ -155,19 +155,19 @@ module _ (axis : Axis) (g : Grid (List ℕ)) where
   none_in m = record { sorted = tt; each = tt; all = λ p many is run. absurd (false≢true is) }
 
   -- those of one entity
-  pub runs_named : (e : Entity) (m : SpanMap) (es : List Rectangle) → RunsFrom axis e g m 0 0 es → RunsIn axis (names_line axis e) g m es
+  pub runs_named : (e : Entity) (m : SpanMap) (es : List Rectangle) → RunsOf axis e g m es → RunsIn axis (names_line axis e) g m es
   runs_named e m es listed = record {
     sorted = listed.sorted;
     each = all_then {Q = λ (a : Rectangle). (names_line axis e (line_at axis a.first) ≡ true) × IsOfRun axis Global g m a} (λ a it. let named = run_named axis e g m a.first it.0 it.1 in (named, (it.0, run_all axis g m e a.first it.0 named it.1, it.2))) es listed.each;
-    all = λ p many named run. listed.all p many (run_on axis g m e p many named run) (none_before p);
+    all = λ p many named run. listed.all p many (run_on axis g m e p many named run);
   }
 
-  -- those of the table, in some of its lines
-  pub runs_kept : (is_in : ℕ → Bool) (m : SpanMap) (es : List Rectangle) → RunsFrom axis Global g m 0 0 es → RunsIn axis is_in g m (filter (λ (e : Rectangle). is_in (line_at axis e.first)) es)
-  runs_kept is_in m es listed = record {
+  -- those of a block, in some lines of which all cells are in it
+  pub runs_kept : (is_in : ℕ → Bool) (m : SpanMap) (block : Rectangle) → ((p : Position) → IsInside g p → is_in (line_at axis p) ≡ true → In block p) → (es : List Rectangle) → RunsFrom axis Global g m block 0 0 es → RunsIn axis is_in g m (filter (λ (e : Rectangle). is_in (line_at axis e.first)) es)
+  runs_kept is_in m block holds es listed = record {
     sorted = sorted-filter (λ (e : Rectangle). is_in (line_at axis e.first)) es listed.sorted;
     each = kept es listed.each;
-    all = λ p many is run. find_kept (λ q. is_in (line_at axis q)) p es ∙ ap (λ b. cond b (find_at p es) None) is ∙ listed.all p many run (none_before p);
+    all = λ p many is run. find_kept (λ q. is_in (line_at axis q)) p es ∙ ap (λ b. cond b (find_at p es) None) is ∙ listed.all p many run (holds p (begins_named axis Global g m p many run).inside is) (none_before p);
   }
     where
       kept : (rest : List Rectangle) → AllByRecursion (IsOfRun axis Global g m) rest → AllByRecursion (λ (e : Rectangle). (is_in (line_at axis e.first) ≡ true) × IsOfRun axis Global g m e) (filter (λ (e : Rectangle). is_in (line_at axis e.first)) rest)

@@ -1,5 +1,5 @@
 -- The order of places, row by row, and the map in which runs that are listed are rectangles.
-use Rattle.tabled_spans.proofs.Common.{AllByRecursion, Axis, Before, Bool, Columns, Entity, Grid, IsNamed, IsOfRun, IsRun, IsSizeAt, List, MergesRuns, None, Option, Position, Rectangle, Rows, RunsFrom, Size, Some, SpanMap, [], and_left, ap, ap₂, arith, cases_lt, cases_place, common_steps, cond, false, find, find_at, if◌then◌else◌, inl, inr, is_cell, ne_eqb, none-some, place, position_cmp, size_of_run, subst, sym, untied, with_sizes, ℕ, ◌&&◌, ◌+◌, ◌<◌, ◌==◌, ◌∙◌, ◌∷◌, ◌≡◌, ◌≤◌, ◌⊎◌}
+use Rattle.tabled_spans.proofs.Common.{AllByRecursion, Axis, Before, Bool, Columns, Entity, Grid, IsNamed, IsOfRun, IsRun, IsSizeAt, List, MergesRuns, None, Option, Position, Rectangle, Rows, RunsOf, Size, Some, SpanMap, [], and_left, ap, ap₂, arith, cases_lt, cases_place, common_steps, cond, false, find_at, if◌then◌else◌, inl, inr, is_cell, ne_eqb, none-some, place, size_of_run, subst, sym, untied, with_sizes, ℕ, ◌+◌, ◌<◌, ◌∙◌, ◌∷◌, ◌≡◌, ◌≤◌, ◌⊎◌}
 use Rattle.tabled_spans.proofs.Runs.{further_none}
 use Rattle.tabled_spans.proofs.SetSizes.{get-with_sizes, set_or}
 
@@ -56,5 +56,5 @@ module _ (axis : Axis) (entity : Entity) (g : Grid (List ℕ)) (m : SpanMap) whe
     | inr other ↦ entry_of es each.1 p s (sym (ap (λ b. cond b (Some e.size) (find_at p es)) (untied p e.first other)) ∙ is)
   ]
 
-  pub runs_merged : (es : List Rectangle) → RunsFrom axis entity g m 0 0 es → MergesRuns axis entity g m (with_sizes m es)
-  runs_merged es listed = grind (arith, common_steps, none_before, set_or, get-with_sizes, none-some, entry_of, not_one)
+  pub runs_merged : (es : List Rectangle) → RunsOf axis entity g m es → MergesRuns axis entity g m (with_sizes m es)
+  runs_merged es listed = grind (arith, common_steps, set_or, get-with_sizes, none-some, entry_of, not_one)

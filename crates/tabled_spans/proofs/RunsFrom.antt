@@ -1,5 +1,5 @@
 -- Lists of the runs from a place on, row by row.
-use Rattle.tabled_spans.proofs.Common.{[], ◌+◌, ◌∙◌, ◌∷◌, ◌≡◌, ◌≢◌, ◌≤◌, AllByRecursion, Axis, Before, Below, Entity, Grid, In, IsNamed, IsRun, List, Position, Rectangle, RunAt, RunsFrom, Some, SpanMap, ap, arith, both, cases_place, common_steps, cond, find_at, from_earlier, inl, inr, is_eq, place, position_cmp, rectangle, refl, size_of_run, subst, tied, true, untied, ℕ}
+use Rattle.tabled_spans.proofs.Common.{[], ◌+◌, ◌∙◌, ◌∷◌, ◌≡◌, ◌≢◌, ◌≤◌, AllByRecursion, Axis, Before, Below, Entity, Grid, In, IsNamed, IsRun, List, Position, Rectangle, RunAt, RunsFrom, RunsOf, Some, SpanMap, ap, arith, both, cases_place, common_steps, cond, find_at, from_earlier, inl, inr, is_eq, place, position_cmp, rectangle, refl, size_of_run, subst, tied, true, untied, ℕ}
 use Rattle.tabled_spans.proofs.RunLists.{all_then, begins_named, in_row, next_row, none_before, one_more, split_last}
 use Rattle.tabled_spans.proofs.Runs.{same_run}
 
@@ -15,31 +15,36 @@ below_after : (i j : ℕ) (es : List Rectangle) → AllByRecursion (λ (e : Rect
 below_after i j [] after = tt
 below_after i j (e ∷ es) after = both _ _ (rw (from_earlier (place i j) e.first (is_after i j e.first after.0)) tt) (below_after i j es after.1)
 
-module _ (axis : Axis) (entity : Entity) (g : Grid (List ℕ)) (m : SpanMap) where
-  module _ (block : Rectangle) (within : (p : Position) → IsNamed entity g p → In block p) where
-    -- no run begins below the block
-    pub none_below : (i j : ℕ) → block.first.row + block.size.height ≤ i → RunsFrom axis entity g m i j []
-    none_below i j high = record { sorted = tt; from = tt; each = tt; all = λ p n run h. absurd (h (inl (let at = within p (begins_named axis entity g m p n run) in omega (arith, high, at.bottom)))) }
+module _ (axis : Axis) (entity : Entity) (g : Grid (List ℕ)) (m : SpanMap) (block : Rectangle) where
+  -- no run begins below the block
+  pub none_below : (i j : ℕ) → block.first.row + block.size.height ≤ i → RunsFrom axis entity g m block i j []
+  none_below i j high = record { sorted = tt; from = tt; inside = tt; each = tt; all = λ p n run at h. absurd (h (inl (omega (arith, high, at.bottom)))) }
 
-    -- those from a row on are those from the end of the row before on
-    pub from_end : (i j : ℕ) (es : List Rectangle) → block.first.col + block.size.width ≤ j → RunsFrom axis entity g m (i + 1) block.first.col es → RunsFrom axis entity g m i j es
-    from_end i j es wide so_far = record {
-      sorted = so_far.sorted;
-      from = all_then {Q = λ (e : Rectangle). Before i j e.first → ⊥} (λ e never h. never (next_row i j block.first.col e.first h)) es so_far.from;
-      each = so_far.each;
-      all = λ p n run never. so_far.all p n run (λ h. let at = within p (begins_named axis entity g m p n run) in never (in_row i j block.first.col p at.left (omega (arith, at.right, wide)) h));
-    }
+  -- those from a row on are those from the end of the row before on
+  pub from_end : (i j : ℕ) (es : List Rectangle) → block.first.col + block.size.width ≤ j → RunsFrom axis entity g m block (i + 1) block.first.col es → RunsFrom axis entity g m block i j es
+  from_end i j es wide so_far = record {
+    sorted = so_far.sorted;
+    from = all_then {Q = λ (e : Rectangle). Before i j e.first → ⊥} (λ e never h. never (next_row i j block.first.col e.first h)) es so_far.from;
+    inside = so_far.inside;
+    each = so_far.each;
+    all = λ p n run at never. so_far.all p n run at (λ h. never (in_row i j block.first.col p at.left (omega (arith, at.right, wide)) h));
+  }
 
-    -- those from the block's first cell on are all
-    pub from_first : (i : ℕ) (es : List Rectangle) → i ≤ block.first.row → RunsFrom axis entity g m i block.first.col es → RunsFrom axis entity g m 0 0 es
-    from_first i es high so_far = record {
-      sorted = so_far.sorted;
-      from = all_then {Q = λ (e : Rectangle). Before 0 0 e.first → ⊥} (λ e never h. none_before e.first h) es so_far.from;
-      each = so_far.each;
-      all = λ p n run never. so_far.all p n run (λ h. let at = within p (begins_named axis entity g m p n run) in elim h [ inl above ↦ omega (arith, above, high, at.top) | inr left ↦ omega (arith, left.1, at.left) ]);
-    }
+  -- those from the block's first cell on are all
+  pub from_first : (i : ℕ) (es : List Rectangle) → i ≤ block.first.row → RunsFrom axis entity g m block i block.first.col es → RunsFrom axis entity g m block 0 0 es
+  from_first i es high so_far = record {
+    sorted = so_far.sorted;
+    from = all_then {Q = λ (e : Rectangle). Before 0 0 e.first → ⊥} (λ e never h. none_before e.first h) es so_far.from;
+    inside = so_far.inside;
+    each = so_far.each;
+    all = λ p n run at never. so_far.all p n run at (λ h. elim h [ inl above ↦ omega (arith, above, high, at.top) | inr left ↦ omega (arith, left.1, at.left) ]);
+  }
 
-  module _ (i j : ℕ) (es : List Rectangle) (so_far : RunsFrom axis entity g m i (j + 1) es) where
+  -- where the entity names no cell beside the block, they are all of its runs
+  pub all_listed : ((p : Position) → IsNamed entity g p → In block p) → (es : List Rectangle) → RunsFrom axis entity g m block 0 0 es → RunsOf axis entity g m es
+  all_listed within es listed = record { sorted = listed.sorted; each = listed.each; all = λ p n run. listed.all p n run (within p (begins_named axis entity g m p n run)) (none_before p) }
+
+  module _ (i j : ℕ) (es : List Rectangle) (so_far : RunsFrom axis entity g m block i (j + 1) es) where
     still_from : AllByRecursion (λ (e : Rectangle). Before i j e.first → ⊥) es
     still_from = all_then {Q = λ (e : Rectangle). Before i j e.first → ⊥} (λ e never h. never (one_more i j e.first h)) es so_far.from
 
@@ -48,24 +53,26 @@ module _ (axis : Axis) (entity : Entity) (g : Grid (List ℕ)) (m : SpanMap) whe
     begins_after p other never h = elim (split_last i j p h) [ inl b ↦ never b | inr e ↦ other e ]
 
     -- no run begins at the place
-    pub none_put : (many : ℕ) → many ≤ 1 → RunAt axis entity g m (place i j) many → RunsFrom axis entity g m i j es
+    pub none_put : (many : ℕ) → many ≤ 1 → RunAt axis entity g m (place i j) many → RunsFrom axis entity g m block i j es
     none_put many few found = record {
       sorted = so_far.sorted;
       from = still_from;
+      inside = so_far.inside;
       each = so_far.each;
-      all = λ p n run never. so_far.all p n run (begins_after p (λ e. found.none few n (subst (λ x. IsRun axis entity g m x n) e run)) never);
+      all = λ p n run at never. so_far.all p n run at (begins_after p (λ e. found.none few n (subst (λ x. IsRun axis entity g m x n) e run)) never);
     }
 
     -- one begins there
-    pub run_put : (many : ℕ) → 2 ≤ many → RunAt axis entity g m (place i j) many → RunsFrom axis entity g m i j (rectangle (place i j) (size_of_run axis many) ∷ es)
-    run_put many two found = record {
+    pub run_put : (many : ℕ) → 2 ≤ many → In block (place i j) → RunAt axis entity g m (place i j) many → RunsFrom axis entity g m block i j (rectangle (place i j) (size_of_run axis many) ∷ es)
+    run_put many two here found = record {
       sorted = both _ _ (below_after i j es so_far.from) so_far.sorted;
       from = (not_itself i j, still_from);
+      inside = (here, so_far.inside);
       each = ((many, found.is two, refl), so_far.each);
-      all = λ p n run never. elim (cases_place p (place i j)) [
+      all = λ p n run at never. elim (cases_place p (place i j)) [
         | inl e ↦
             let same = same_run axis entity g m (place i j) many n (found.is two) (subst (λ x. IsRun axis entity g m x n) e run) in
             ap (λ b. cond b (Some (size_of_run axis many)) (find_at p es)) (subst (λ x. is_eq (position_cmp p x) ≡ true) e (tied p)) ∙ ap (λ k. Some (size_of_run axis k)) same
-        | inr other ↦ ap (λ b. cond b (Some (size_of_run axis many)) (find_at p es)) (untied p (place i j) other) ∙ so_far.all p n run (begins_after p other never)
+        | inr other ↦ ap (λ b. cond b (Some (size_of_run axis many)) (find_at p es)) (untied p (place i j) other) ∙ so_far.all p n run at (begins_after p other never)
       ];
     }

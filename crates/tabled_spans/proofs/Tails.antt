@@ -1,5 +1,5 @@
 -- Tails of runs: the lengths that are carried from each cell to the one before it.
-use Rattle.tabled_spans.proofs.Common.{◌+◌, ◌-◌, ◌<◌, ◌∙◌, ◌≡◌, ◌≢◌, ◌≤◌, ◌⊎◌, AreInBlock, AreTails, Axis, Before, Columns, Entity, Grid, In, IsInside, IsTail, Joins, List, Position, Rectangle, Rows, SpanMap, ap, ap₂, arith, cases_lt, cases_place, common_steps, further, get_or-replicate, get_or-set_other, get_or-set_same, inl, inr, length-replicate, length-set, line_of, place, refl, replicate, slice_index, slice_set, subst, sym, ℕ}
+use Rattle.tabled_spans.proofs.Common.{◌+◌, ◌-◌, ◌<◌, ◌∙◌, ◌≡◌, ◌≢◌, ◌≤◌, ◌⊎◌, AreTails, Axis, Before, Columns, Entity, Grid, In, IsBand, IsInside, IsTail, Joins, List, Position, Rectangle, Rows, SpanMap, ap, ap₂, arith, cases_lt, cases_place, common_steps, further, get_or-replicate, get_or-set_other, get_or-set_same, inl, inr, length-replicate, length-set, line_of, place, refl, replicate, slice_index, slice_set, subst, sym, ℕ}
 use Rattle.tabled_spans.proofs.RunLists.{in_row, next_row, one_more, split_last}
 use Rattle.tabled_spans.proofs.Runs.{further_back, further_none, same_last}
 
@@ -40,12 +40,12 @@ module _ (axis : Axis) (entity : Entity) (g : Grid (List ℕ)) (m : SpanMap) whe
       either Columns e (inl two) within = let there = (within two).col in omega (arith, there, wide, two, ap (λ (y : Position). y.col) e)
       either Columns e (inr one) within = omega (arith, wide, one, inside.col, ap (λ (y : Position). y.col) e)
 
-  module _ (block : Rectangle) (is : AreInBlock entity g block) where
+  module _ (block : Rectangle) (is : IsBand axis entity g block) where
     -- below the block
     pub tails_below : (i j : ℕ) → block.first.row + block.size.height ≤ i → AreTails axis entity g m block i j (replicate block.size.width 1)
     tails_below i j high = record {
       size = length-replicate block.size.width 1;
-      each = λ p inside before alone. subst (IsTail axis entity g m p) (sym (get_or-replicate block.size.width (p.col - block.first.col) 1 0 (omega (arith, inside.left, inside.right)))) (tail_alone p (λ j. let next = (is (further axis 1 p)).0 j.next in alone next (inl (omega (arith, next.bottom, high)))));
+      each = λ p inside before alone. subst (IsTail axis entity g m p) (sym (get_or-replicate block.size.width (p.col - block.first.col) 1 0 (omega (arith, inside.left, inside.right)))) (tail_alone p (λ j. let next = is.next p inside j.next in alone next (inl (omega (arith, next.bottom, high)))));
     }
 
     -- the cell before one of the block's first line isn't in the block

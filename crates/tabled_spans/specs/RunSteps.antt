@@ -26,12 +26,19 @@ Before i j p = (p.row < i) ⊎ ((p.row ≡ i) × (p.col < j))
 abbrev pub IsOfRun : Axis → Entity → Grid (List ℕ) → SpanMap → Rectangle → Type 0
 IsOfRun axis e g m anchor = (many : ℕ) × IsRun axis e g m anchor.first many × (anchor.size ≡ size_of_run axis many)
 
--- the anchors and sizes of all runs that begin at a place or after it, row by row
-pub record RunsFrom (axis : Axis) (e : Entity) (g : Grid (List ℕ)) (m : SpanMap) (i j : ℕ) (sizes : List Rectangle) : Type 0 where
+-- the anchors and sizes of all runs, row by row
+pub record RunsOf (axis : Axis) (e : Entity) (g : Grid (List ℕ)) (m : SpanMap) (sizes : List Rectangle) : Type 0 where
+  pub sorted : AreSorted sizes
+  pub each : AllByRecursion (IsOfRun axis e g m) sizes
+  pub all : (p : Position) (many : ℕ) → IsRun axis e g m p many → find position_cmp p (pairs sizes) ≡ Some (size_of_run axis many)
+
+-- the anchors and sizes of all runs that begin in a block, at a place or after it, row by row
+pub record RunsFrom (axis : Axis) (e : Entity) (g : Grid (List ℕ)) (m : SpanMap) (block : Rectangle) (i j : ℕ) (sizes : List Rectangle) : Type 0 where
   pub sorted : AreSorted sizes
   pub from : AllByRecursion (λ (anchor : Rectangle). Before i j anchor.first → ⊥) sizes
+  pub inside : AllByRecursion (λ (anchor : Rectangle). In block anchor.first) sizes
   pub each : AllByRecursion (IsOfRun axis e g m) sizes
-  pub all : (p : Position) (many : ℕ) → IsRun axis e g m p many → (Before i j p → ⊥) → find position_cmp p (pairs sizes) ≡ Some (size_of_run axis many)
+  pub all : (p : Position) (many : ℕ) → IsRun axis e g m p many → In block p → (Before i j p → ⊥) → find position_cmp p (pairs sizes) ≡ Some (size_of_run axis many)
 
 -- the cell and those after it along the axis, as far as each joins the next one
 pub record IsTail (axis : Axis) (e : Entity) (g : Grid (List ℕ)) (m : SpanMap) (p : Position) (many : ℕ) : Type 0 where
@@ -65,6 +72,12 @@ block_in cover = rectangle cover.first (sized cover.rows cover.columns)
 -- the cells of the table that an entity names are those of a block
 abbrev pub AreInBlock : Entity → Grid (List ℕ) → Rectangle → Type 0
 AreInBlock e g block = (p : Position) → IsNamed e g p ↔ In block p
+
+-- an entity names the cells of a block, and none beside them along an axis
+pub record IsBand (axis : Axis) (e : Entity) (g : Grid (List ℕ)) (block : Rectangle) : Type 0 where
+  pub named : (p : Position) → In block p → IsNamed e g p
+  pub next : (p : Position) → In block p → IsNamed e g (further axis 1 p) → In block (further axis 1 p)
+  pub back : (p : Position) → In block (further axis 1 p) → IsNamed e g p → In block p
 
 -- the length of the tail of each cell of a block before a place, row by row, whose next one isn't before it, at the cell's column
 pub record AreTails (axis : Axis) (e : Entity) (g : Grid (List ℕ)) (m : SpanMap) (block : Rectangle) (i j : ℕ) (lengths : List ℕ) : Type 0 where

@@ -3,13 +3,14 @@ use Rattle.std.specs.Prelude.{◌≡◌, ◌+◌, ◌-◌, ◌<◌, ◌≤◌, �
 use Rattle.std.specs.FinMap as map
 use Rattle.tabled_grid.specs.Axis.{in_line, line_of, resized}
 use Rattle.tabled_grid.specs.Entity.{names}
-use Rattle.tabled_grid.specs.Grid.{Grid, IsInside, cell_at}
+use Rattle.tabled_grid.specs.Grid.{Grid, IsInside, cell_at, map_grid}
 use Rattle.tabled_grid.specs.Hidden.{is_visible}
 use Rattle.tabled_grid.specs.Spans.{SpanMap, is_cell, size_at, sized}
 use Rattle.tabled_grid.specs.declared.config.entity.Entity.{Entity}
 use Rattle.tabled_grid.specs.declared.config.position.Position.{Position}
 use Rattle.tabled_grid.specs.declared.records.axis.Axis.{Axis}
 use Rattle.tabled_grid.specs.declared.config.size.Size.{Size}
+use Rattle.tabled_options.specs.Does.{Change}
 
 -- the place n rows (or columns) further
 abbrev pub further : Axis → ℕ → Position → Position
@@ -62,3 +63,7 @@ MergedIsRun axis e g m p size = map.get m p ≡ Some size → (many : ℕ) × Is
 -- the map with a rectangle for each run among the cells of an entity, anchored at its first cell, and with all others as they were
 pub record MergesRuns (axis : Axis) (e : Entity) (g : Grid (List ℕ)) (m n : SpanMap) : Type 0 where
   pub each : (p : Position) → ((many : ℕ) × IsRun axis e g m p many × (map.get n p ≡ Some (size_of_run axis many))) ⊎ (((many : ℕ) → IsRun axis e g m p many → ⊥) × (map.get n p ≡ map.get m p))
+
+-- the runs among the cells of an entity are merged, and cells stay
+abbrev pub Merges : {A : Type 0} → (A → List ℕ) → Axis → Entity → Change A SpanMap
+Merges text_of axis e old cfg new new_cfg = (new ≡ old) × MergesRuns axis e (map_grid text_of old) cfg new_cfg

@@ -26,13 +26,14 @@ pub use Rattle.tabled_select.specs.Locators.{columns_with}
 pub use Rattle.tabled_select.specs.Selectors.{rows_of}
 pub use Rattle.tabled_settings.proofs.Common.{Duplicates, DuplicatesFirst, IfOk, IsEven-map_grid, IsEven-with_cell, JoinsAt, ReadsThrough, Rearranges, Removes, cell_at-map_grid, charset_writes, corner_of, cut_rows, dup_writes, extracted, flat_map-append, get_or-map-range_with_len, has_pieces, inside-no_cell, inside-no_column, inside-no_row, is_set, mapped_writes, on_err_weaker, oriented, places, recoded, removed, reversed, rotated, round_from, round_writes, rounds, shape_texts, source_texts, split, wrap_writes, wrapped, writes_keep}
 pub use Rattle.tabled_settings.specs.Joined.{joined_text}
-pub use Rattle.tabled_spans.proofs.Common.{IsNamed, IsRun, Joins, MergesRuns, Panels, RunAt, RunsFrom, Spans, SpansFirst, back_of, further, grown_each, has_room, hidden-from, hidden_by, ltb-true, pull_writes, pulled_each, size_of_run, span_writes, spanned, with_line_at}
+pub use Rattle.tabled_spans.proofs.Common.{IsNamed, IsRun, Joins, MergesRuns, Panels, RunAt, RunsFrom, RunsOf, Spans, SpansFirst, back_of, further, grown_each, has_room, hidden-from, hidden_by, ltb-true, pull_writes, pulled_each, size_of_run, span_writes, spanned, with_line_at}
 pub use Rattle.tabled_spans.specs.Panels.{cells_along}
+pub use Rattle.tabled_spans.specs.Runs.{Merges}
 pub use Rattle.tabled_steps.specs.Groups.{AreGroups, AreRepresentatives, IsGroup, IsLocal, Skips, StepsBy, groups_outside, named_places, once, representatives_of, row_groups, segment_cells, segment_groups, unrolled}
 pub use Rattle.tabled_steps.specs.Reads.{joined_tables, read, texts_by_place}
 pub use Rattle.tabled_steps.specs.Selected.{half_open, named_by, selected}
 pub use Rattle.tabled_steps.specs.States.{IsUndoneMidway, State, after, after_all, duplicate, flattened, merge, on_each, parts, put_panel, rearrange, recode, set, span, state_of, wrap}
-pub use Rattle.tabled_steps.specs.Steps.{Does, Leaves, LeavesFirst, Merges, Names, Refused}
+pub use Rattle.tabled_steps.specs.Steps.{Does, Leaves, LeavesFirst, Names, Refused}
 pub use Rattle.tabled_steps.specs.declared.groups.Group.{Group}
 pub use Rattle.tabled_steps.specs.declared.select.Select.{Select}
 pub use Rattle.tabled_steps.specs.declared.step.Step.{Step}

@@ -1,12 +1,12 @@
 -- The runs that are listed are those that are merged.
-use Rattle.tabled_steps.proofs.Common.{◌++◌, ◌+◌, ◌-◌, ◌<◌, ◌∙◌, ◌≡◌, ◌≤◌, ◌⊎◌, Axis, Bool, Columns, Entity, Grid, IsInside, IsNamed, IsRun, Joins, List, MergesRuns, None, Option, Position, Rectangle, Rows, RunAt, RunsFrom, Some, SpanMap, and_from, and_parts, ap, append_assoc, ap₂, arith, block-is, cond, false, false≢true, flat_map, flat_map-append, further, get, inl, inr, lt-ltb, ltb-true, map, none-some, option_eq, place, places, positions_exact, positions_total, range_with_len, rectangle, refl, same_Some, same_map, size_of_run, subst, suc, sym, true, with_sizes, zero, ℕ}
+use Rattle.tabled_steps.proofs.Common.{◌++◌, ◌+◌, ◌-◌, ◌<◌, ◌∙◌, ◌≡◌, ◌≤◌, ◌⊎◌, Axis, Bool, Columns, Entity, Grid, IsInside, IsNamed, IsRun, Joins, List, MergesRuns, None, Option, Position, Rectangle, Rows, RunAt, RunsFrom, RunsOf, Some, SpanMap, and_from, and_parts, ap, append_assoc, ap₂, arith, block-is, cond, false, false≢true, flat_map, flat_map-append, further, get, inl, inr, lt-ltb, ltb-true, map, none-some, option_eq, place, places, positions_exact, positions_total, range_with_len, rectangle, refl, same_Some, same_map, size_of_run, subst, suc, sym, true, with_sizes, zero, ℕ}
 use Rattle.std.specs.Str.{bytes_eq}
 use Rattle.tabled_grid.specs.Midway.{In}
 use Rattle.tabled_grid.specs.Spans.{sized}
 use Rattle.std.proofs.lemmas.Slice.Eq.{bytes_eq-Decides}
 use Rattle.tabled_spans.proofs.RunLists.{runs_merged}
 use Rattle.tabled_spans.proofs.Runs.{continues, further_none, run_at as run_at_end, same_run}
-use Rattle.tabled_spans.proofs.RunsFrom.{from_end, none_below, none_put, run_put}
+use Rattle.tabled_spans.proofs.RunsFrom.{all_listed, from_end, none_below, none_put, run_put}
 use Rattle.tabled_steps.specs.MergedRuns.{is_joined, is_named, joins, run_at, run_from, runs}
 
 alike_if : (a b : Option (List ℕ)) → a ≡ b → option_eq bytes_eq a b ≡ true
@@ -127,26 +127,6 @@ module _ (axis : Axis) (entity : Entity) (g : Grid (List ℕ)) (m : SpanMap) whe
   one_at zero p f = refl
   one_at (suc most) p f = rw f refl
 
-  one_place : (i j : ℕ) (es : List Rectangle) → RunsFrom axis entity g m i (j + 1) es → RunsFrom axis entity g m i j (run_at axis entity g m (place i j) ++ es)
-  one_place i j es so_far = by (joins axis entity g m (place i j)) (is_joined axis entity g m (place i j)) refl refl
-    where
-      by : (b c : Bool) → joins axis entity g m (place i j) ≡ b → is_joined axis entity g m (place i j) ≡ c → RunsFrom axis entity g m i j (run_at axis entity g m (place i j) ++ es)
-      by true false t f =
-          let inside = (if_joins (place i j) t).here.inside in
-          rw (t, f) (run_put axis entity g m i j es so_far (counted (place i j)) (two_at (g.rows + g.columns) (place i j) (omega (arith, inside.row)) t) (found_at (place i j) f))
-      by true true t f = rw (t, f) (none_put axis entity g m i j es so_far 0 (omega arith) (continued (place i j) f))
-      by false true t f = rw t (none_put axis entity g m i j es so_far 0 (omega arith) (continued (place i j) f))
-      by false false t f = rw t (none_put axis entity g m i j es so_far (counted (place i j)) (omega (arith, one_at (g.rows + g.columns) (place i j) t)) (found_at (place i j) f))
-
-  abbrev listed : List Position → List Rectangle
-  listed = flat_map (run_at axis entity g m)
-
-  one_row : (n i j : ℕ) (es : List Rectangle) → j + n ≡ g.columns → RunsFrom axis entity g m i g.columns es → RunsFrom axis entity g m i j (listed (map (place i) (range_with_len j n)) ++ es)
-  one_row zero i j es e so_far = subst (λ k. RunsFrom axis entity g m i k es) (omega (arith, e)) so_far
-  one_row (suc n) i j es e so_far =
-      let rest = map (place i) (range_with_len (j + 1) n) in
-      rw (append_assoc (run_at axis entity g m (place i j)) (listed rest) es) (one_place i j (listed rest ++ es) (one_row n i (j + 1) es (omega (arith, e)) so_far))
-
   -- the cells that are named lie in the table
   abbrev table : Rectangle
   table = rectangle (place 0 0) (sized g.rows g.columns)
@@ -154,15 +134,35 @@ module _ (axis : Axis) (entity : Entity) (g : Grid (List ℕ)) (m : SpanMap) whe
   within : (p : Position) → IsNamed entity g p → In table p
   within p h = record { top = omega arith; bottom = omega (arith, h.inside.row); left = omega arith; right = omega (arith, h.inside.col) }
 
-  all_rows : (n i : ℕ) → i + n ≡ g.rows → RunsFrom axis entity g m i 0 (listed (places (range_with_len i n) (range_with_len 0 g.columns)))
-  all_rows zero i e = none_below axis entity g m table within i 0 (omega (arith, e))
+  one_place : (i j : ℕ) (es : List Rectangle) → RunsFrom axis entity g m table i (j + 1) es → RunsFrom axis entity g m table i j (run_at axis entity g m (place i j) ++ es)
+  one_place i j es so_far = by (joins axis entity g m (place i j)) (is_joined axis entity g m (place i j)) refl refl
+    where
+      by : (b c : Bool) → joins axis entity g m (place i j) ≡ b → is_joined axis entity g m (place i j) ≡ c → RunsFrom axis entity g m table i j (run_at axis entity g m (place i j) ++ es)
+      by true false t f =
+          let here = (if_joins (place i j) t).here in
+          rw (t, f) (run_put axis entity g m table i j es so_far (counted (place i j)) (two_at (g.rows + g.columns) (place i j) (omega (arith, here.inside.row)) t) (within (place i j) here) (found_at (place i j) f))
+      by true true t f = rw (t, f) (none_put axis entity g m table i j es so_far 0 (omega arith) (continued (place i j) f))
+      by false true t f = rw t (none_put axis entity g m table i j es so_far 0 (omega arith) (continued (place i j) f))
+      by false false t f = rw t (none_put axis entity g m table i j es so_far (counted (place i j)) (omega (arith, one_at (g.rows + g.columns) (place i j) t)) (found_at (place i j) f))
+
+  abbrev listed : List Position → List Rectangle
+  listed = flat_map (run_at axis entity g m)
+
+  one_row : (n i j : ℕ) (es : List Rectangle) → j + n ≡ g.columns → RunsFrom axis entity g m table i g.columns es → RunsFrom axis entity g m table i j (listed (map (place i) (range_with_len j n)) ++ es)
+  one_row zero i j es e so_far = subst (λ k. RunsFrom axis entity g m table i k es) (omega (arith, e)) so_far
+  one_row (suc n) i j es e so_far =
+      let rest = map (place i) (range_with_len (j + 1) n) in
+      rw (append_assoc (run_at axis entity g m (place i j)) (listed rest) es) (one_place i j (listed rest ++ es) (one_row n i (j + 1) es (omega (arith, e)) so_far))
+
+  all_rows : (n i : ℕ) → i + n ≡ g.rows → RunsFrom axis entity g m table i 0 (listed (places (range_with_len i n) (range_with_len 0 g.columns)))
+  all_rows zero i e = none_below axis entity g m table i 0 (omega (arith, e))
   all_rows (suc n) i e =
       let first = map (place i) (range_with_len 0 g.columns) in
       let rest = places (range_with_len (i + 1) n) (range_with_len 0 g.columns) in
-      rw (flat_map-append (run_at axis entity g m) first rest) (one_row g.columns i 0 (listed rest) (omega arith) (from_end axis entity g m table within i g.columns (listed rest) (omega arith) (all_rows n (i + 1) (omega (arith, e)))))
+      rw (flat_map-append (run_at axis entity g m) first rest) (one_row g.columns i 0 (listed rest) (omega arith) (from_end axis entity g m table i g.columns (listed rest) (omega arith) (all_rows n (i + 1) (omega (arith, e)))))
 
-  runs_listed : RunsFrom axis entity g m 0 0 (runs axis entity g m)
-  runs_listed = rw (block-is 0 g.rows 0 g.columns g.rows g.columns (omega arith) (omega arith)) (all_rows g.rows 0 (omega arith))
+  runs_listed : RunsOf axis entity g m (runs axis entity g m)
+  runs_listed = rw (block-is 0 g.rows 0 g.columns g.rows g.columns (omega arith) (omega arith)) (all_listed axis entity g m table within _ (all_rows g.rows 0 (omega arith)))
 
   -- the map in which the runs are merged is that with their sizes
   pub is_merged : (n : SpanMap) → MergesRuns axis entity g m n → n ≡ with_sizes m (runs axis entity g m)

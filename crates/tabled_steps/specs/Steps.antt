@@ -6,7 +6,6 @@ use Rattle.tabled_grid.specs.Grid.{Grid, map_grid}
 use Rattle.tabled_grid.specs.Spans.{SpanMap}
 use Rattle.tabled_grid.specs.declared.config.entity.Entity.{Entity}
 use Rattle.tabled_grid.specs.declared.config.entity.Entity.TheVariants.{Global}
-use Rattle.tabled_grid.specs.declared.records.axis.Axis.{Axis}
 use Rattle.tabled_grid.specs.declared.records.axis.Axis.TheVariants.{Rows, Columns}
 use Rattle.tabled_options.specs.Does.{AfterNeverRefused, Change, EachListed, EachListedUntil, EachUntilAt, Same, SameOr, Then, ThenLeaves}
 use Rattle.tabled_options.specs.Writes.{DoesFirstWrites, DoesWrites, text_writes}
@@ -22,7 +21,7 @@ use Rattle.tabled_settings.specs.Rearranged.{Rearranges, ReversesTable, extracte
 use Rattle.tabled_settings.specs.declared.rotate.Rotate.TheVariants.{Bottom, Top}
 use Rattle.tabled_grid.specs.Bounds.{indexes}
 use Rattle.tabled_spans.specs.Panels.{Panels, has_room}
-use Rattle.tabled_spans.specs.Runs.{MergesRuns, NamesNoNeighbours}
+use Rattle.tabled_spans.specs.Runs.{Merges, NamesNoNeighbours}
 use Rattle.tabled_spans.specs.Spanned.{SpanTakesNoMemory, Spans, SpansFirst}
 use Rattle.tabled_steps.specs.Selected.{half_open, selected, single}
 use Rattle.tabled_steps.specs.declared.select.Select.{Select}
@@ -33,10 +32,6 @@ module _ {A : Type 0} (text_of : A → List ℕ) where
   -- these are the entities that a selector names in a table
   abbrev pub Names : Select → Grid A → List Entity → Type 0
   Names select g entities = entities ≡ selected (map_grid text_of g) select
-
-  -- runs of equal neighbours among the cells of an entity are merged, and cells stay
-  abbrev pub Merges : Axis → Entity → Change A SpanMap
-  Merges axis e old cfg new new_cfg = (new ≡ old) × MergesRuns axis e (map_grid text_of old) cfg new_cfg
 
   -- nothing, or the changes for the entities that a selector names before one, and what the refused change for that one leaves
   abbrev pub LeavesFirst : Select → (Entity → Change A SpanMap) → (Entity → Change A SpanMap) → Change A SpanMap

@@ -1,7 +1,7 @@
 //! The order of the pieces of lines.
 
-ghost use Rattle.std.specs.Prelude.{◌≡◌, ◌<◌, ◌*◌};
-ghost use Rattle.tabled_grid.specs.Pieces.{IsPiece, nth_piece};
+ghost use Rattle.std.specs.Prelude.{◌≡◌, ◌*◌, ◌<◌, ◌^◌};
+ghost use Rattle.tabled_grid.specs.Pieces.{IsPiece, nth_piece, piece_index};
 
 /// The order of the pieces of lines that are cut.
 ///
@@ -26,6 +26,21 @@ impl PieceOrder {
         match self {
             PieceOrder::Zip => (nth / pieces, nth % pieces),
             PieceOrder::Concat => (nth % lines, nth / lines),
+        }
+    }
+
+    /// How many pieces come before a piece of a line.
+    #[doc(hidden)]
+    pub fn piece_index(self, lines: usize, pieces: usize, line: usize, number: usize) -> usize
+        requires line { line < lines }
+        requires number { number < pieces }
+        requires numbered { lines * pieces < 2 ^ 64 }
+        ensures index { result ≡ piece_index self lines pieces line number }
+        ensures below { result < lines * pieces }
+    {
+        match self {
+            PieceOrder::Zip => line * pieces + number,
+            PieceOrder::Concat => number * lines + line,
         }
     }
 }

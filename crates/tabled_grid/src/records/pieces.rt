@@ -1,6 +1,7 @@
 //! Lines of a store cut into pieces, each cell moved once.
 
-ghost use Rattle.std.specs.Prelude.{◌≡◌, ◌<◌, OnErr, OnOk};
+ghost use Rattle.std.specs.Prelude.{◌≡◌, ◌*◌, ◌<◌, ◌^◌, OnErr, OnOk};
+ghost use Rattle.std.specs.Int.{div_ceil};
 ghost use Rattle.tabled_grid.specs.Along.{count_along};
 ghost use Rattle.tabled_grid.specs.Axis.{across};
 ghost use Rattle.tabled_grid.specs.Pieces.{cut_places};
@@ -15,17 +16,22 @@ use crate::records::piece_order::PieceOrder;
 use crate::records::records::Records;
 use std::alloc::{AllocError, Global};
 
-/// n lines of a width that are cut.
+/// n lines of a width that are cut into pieces, of which there are at most `usize::MAX`.
+#[doc(hidden)]
 #[derive(Drop)]
-struct Cut {
-    axis: Axis,
-    order: PieceOrder,
-    index: usize,
-    lines: usize,
-    width: usize,
+pub struct Cut {
+    pub axis: Axis,
+    pub order: PieceOrder,
+    pub index: usize,
+    pub lines: usize,
+    pub width: usize,
+    /// How many pieces a line has.
+    pub pieces: usize,
     ghost some: { 0 < lines },
     ghost some_cells: { 0 < index },
     ghost narrow: { index < width },
+    ghost counted: { pieces ≡ div_ceil width index },
+    ghost numbered: { lines * pieces < 2 ^ 64 },
 }
 
 impl Rearrange for Cut {
@@ -36,8 +42,7 @@ impl Rearrange for Cut {
     fn old_place(&self, to: Position) -> Option<Position> {
         let target = self.axis.line_of(to);
         let cell = self.axis.across().line_of(to);
-        let pieces = self.width.div_ceil(self.index);
-        let (line, number) = self.order.nth_piece(self.lines, pieces, target);
+        let (line, number) = self.order.nth_piece(self.lines, self.pieces, target);
         let start = number * self.index;
         if cell < self.width - start {
             Some(self.axis.place(line, start + cell))
@@ -68,7 +73,8 @@ where
 {
     let lines = axis.count(records);
     let width = axis.across().count(records);
-    let Some(all) = lines.checked_mul(width.div_ceil(index)) else {
+    let pieces = width.div_ceil(index);
+    let Some(all) = lines.checked_mul(pieces) else {
         return Err(AllocError);
     };
     let cut = Cut {
@@ -77,6 +83,7 @@ where
         index,
         lines,
         width,
+        pieces,
     };
     let rows = axis.count_of(all, index);
     let columns = axis.count_of(index, all);

@@ -1,9 +1,13 @@
-//! Which block of a table's cells an entity names.
+//! Which block of a table's cells an entity names, or some lines are.
 
-ghost use Rattle.std.specs.Prelude.{◌≡◌, ◌↔◌, ◌+◌, ◌≤◌, IsTrue, List, ℕ};
+ghost use Rattle.std.specs.Prelude.{◌≡◌, ◌↔◌, ◌<◌, ◌+◌, ◌≤◌, IsTrue, List, ℕ};
 ghost use Rattle.tabled_grid.specs.Axis.{across, lines_in};
-ghost use Rattle.tabled_grid.specs.Grid.{Grid};
-ghost use Rattle.tabled_spans.specs.RunSteps.{AreInBlock, column_named, lines_named, row_named};
+ghost use Rattle.tabled_grid.specs.Grid.{Grid, IsInside};
+ghost use Rattle.tabled_grid.specs.Midway.{In};
+ghost use Rattle.tabled_grid.specs.declared.config.entity.Entity.TheVariants.{Global};
+ghost use Rattle.tabled_grid.specs.declared.config.position.Position.{Position};
+ghost use Rattle.tabled_spans.specs.Lines.{line_at};
+ghost use Rattle.tabled_spans.specs.RunSteps.{AreInBlock, IsBand, column_named, lines_named, row_named};
 
 use tabled_grid::config::{Entity, Position, Rectangle, Size};
 use tabled_grid::records::Axis;
@@ -43,6 +47,21 @@ fn lines_named(index: Option<usize>, count: usize) -> (usize, usize)
         None => (0, count),
         Some(line) if line < count => (line, 1),
         Some(_) => (count, 0),
+    }
+}
+
+/// Some neighbouring lines of a table's cells, as a block of them.
+pub(super) fn block_of_lines(axis: Axis, table: Size, line: usize, many: usize) -> Rectangle
+    requires { line + many ≤ lines_in (across axis) table }
+    ensures band { (g : Grid (List ℕ)) → g.rows ≡ table.height → g.columns ≡ table.width → IsBand axis Global g result }
+    ensures cells { (g : Grid (List ℕ)) → g.rows ≡ table.height → g.columns ≡ table.width → (p : Position) → IsInside g p → line ≤ line_at axis p → line_at axis p < line + many → In result p }
+    ensures bottom { result.first.row + result.size.height ≤ table.height }
+    ensures right { result.first.col + result.size.width ≤ table.width }
+{
+    let across = axis.across();
+    Rectangle {
+        first: across.in_line(Position { row: 0, col: 0 }, line),
+        size: across.resized(table, many),
     }
 }
 

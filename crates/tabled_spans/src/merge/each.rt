@@ -1,15 +1,17 @@
 //! Runs merged on many entities at once.
 
 ghost use Rattle.std.specs.Iterator.{AlwaysYields, IsFinite};
-ghost use Rattle.std.specs.Prelude.{◌≡◌, false, filter, get_or, IfOk, IsOk, List, OnErr, OnOk, []};
+ghost use Rattle.std.specs.Prelude.{◌≡◌, false, filter, get_or, IfOk, IsOk, List, OnErr, OnOk, [], length};
+ghost use Rattle.tabled_grid.specs.Along.{count_along};
+ghost use Rattle.tabled_grid.specs.Axis.{across};
 ghost use Rattle.tabled_grid.specs.Grid.{map_grid};
 ghost use Rattle.tabled_grid.specs.declared.config.rectangle.Rectangle.{Rectangle};
 ghost use Rattle.tabled_grid.specs.declared.config.entity.Entity.{Entity};
-ghost use Rattle.tabled_spans.specs.Lines.{MergesEach, RunsIn, is_among, line_at};
+ghost use Rattle.tabled_spans.specs.Lines.{AreMany, MergesEach, RunsIn, is_among, line_at};
 
-use crate::merge::block::has_neighbours;
-use crate::merge::lines::Lines;
-use crate::merge::runs::runs_of;
+use crate::merge::block::{block_of_lines, has_neighbours};
+use crate::merge::lines::{Lines, marked_range};
+use crate::merge::runs::{runs_in_block, runs_of};
 use std::alloc::{AllocError, Global};
 use tabled_grid::config::{Entity, Rectangle, Size, SpannedConfig};
 use tabled_grid::records::{Axis, CellText, ExactRecords, PeekableRecords, Records};
@@ -17,7 +19,8 @@ use tabled_grid::records::{Axis, CellText, ExactRecords, PeekableRecords, Record
 /// Makes each run along an axis, among the cells that each of some entities names, one merged cell: what comes of
 /// one entity after another, since runs lie in lines of their own.
 ///
-/// One entity costs its cells, and more of them one walk over the table. Refused, it leaves the map as it was.
+/// One entity costs its cells, and more of them one walk over the lines from the first of theirs to the last one.
+/// Refused, it leaves the map as it was.
 pub(super) fn merge_each<R, I>(
     alloc: Global,
     records: &R,
@@ -63,18 +66,41 @@ fn runs_in<R>(
 where
     R: Records + ExactRecords + PeekableRecords,
     R::Cell: CellText,
-    requires { R.is_well_formed records.now }
+    requires well { R.is_well_formed records.now }
+    requires many { AreMany (count_along (across axis) (R.grid records.now)) lines.now }
     ensures { IfOk result (λ sizes. RunsIn axis (is_among axis lines.now) (map_grid R.Cell.text_of (R.grid records.now)) cfg.now sizes.items) }
 {
     match lines {
         Lines::Nothing => Ok(Vec::new(alloc)),
         Lines::Of(entity) => runs_of(alloc, records, cfg, axis, *entity),
-        Lines::Marked(marks) => {
-            let mut sizes = runs_of(alloc, records, cfg, axis, Entity::Global)?;
-            keep_marked(&mut sizes, axis, marks);
-            Ok(sizes)
-        }
+        Lines::Marked(marks) => runs_marked(alloc, records, cfg, axis, marks),
     }
+}
+
+/// The same of the marked lines. It walks the band from the first of them to the last one.
+fn runs_marked<R>(
+    alloc: Global,
+    records: &R,
+    cfg: &SpannedConfig,
+    axis: Axis,
+    marks: &[bool],
+) -> Result<Vec<Rectangle>, AllocError>
+where
+    R: Records + ExactRecords + PeekableRecords,
+    R::Cell: CellText,
+    requires well { R.is_well_formed records.now }
+    requires many { length marks.now ≡ count_along (across axis) (R.grid records.now) }
+    ensures { IfOk result (λ sizes. RunsIn axis (λ line. get_or marks.now line false) (map_grid R.Cell.text_of (R.grid records.now)) cfg.now sizes.items) }
+{
+    let table = Size {
+        height: records.count_rows(),
+        width: records.count_columns(),
+    };
+    let (line, many) = marked_range(marks);
+    let band = block_of_lines(axis, table, line, many);
+    let mut sizes = runs_in_block(alloc, records, cfg, axis, band)?;
+    keep_marked(&mut sizes, axis, marks);
+    Ok(sizes)
 }
 
 /// Keeps what is anchored in marked lines.

@@ -1,6 +1,6 @@
 //! Which lines entities name whole.
 
-ghost use Rattle.std.specs.Prelude.{◌≡◌, ◌<◌, ◌==◌, ◌||◌, ℕ, false, get_or, length, IfOk, List, Ok, []};
+ghost use Rattle.std.specs.Prelude.{◌≡◌, ◌<◌, ◌≤◌, ◌+◌, ◌==◌, ◌||◌, ℕ, false, true, get_or, length, IfOk, List, Ok, []};
 ghost use Rattle.std.specs.Iterator.{AlwaysYields, IsFinite};
 ghost use Rattle.tabled_grid.specs.declared.config.entity.Entity.{Entity};
 ghost use Rattle.tabled_spans.specs.Lines.{AreMany, AreNamedBy, is_among, names_line};
@@ -116,4 +116,20 @@ fn mark_one(marks: &mut [bool], line: usize)
     if line < marks.len() {
         marks[line] = true;
     }
+}
+
+/// The first line with a mark, and how many lines there are from it to the last one with a mark.
+pub(super) fn marked_range(marks: &[bool]) -> (usize, usize)
+    ensures within { result.0 + result.1 ≤ length marks.now }
+    ensures marked { (line : ℕ) → get_or marks.now line false ≡ true → (result.0 ≤ line) × (line < result.0 + result.1) }
+{
+    let mut end = marks.len();
+    while end > 0 && !marks[end - 1] {
+        end -= 1;
+    }
+    let mut first = 0;
+    while first < end && !marks[first] {
+        first += 1;
+    }
+    (first, end - first)
 }

@@ -4,7 +4,7 @@ ghost use Rattle.std.specs.Prelude.{◌≡◌, IsOk, OnErr, OnOk};
 ghost use Rattle.tabled_grid.specs.Grid.{map_grid};
 ghost use Rattle.tabled_grid.specs.declared.config.entity.Entity.TheVariants.{Global};
 ghost use Rattle.tabled_grid.specs.declared.records.axis.Axis.TheVariants.{Columns, Rows};
-ghost use Rattle.tabled_spans.specs.Runs.{MergesRuns, NamesNoNeighbours};
+ghost use Rattle.tabled_spans.specs.Runs.{Merges, MergesRuns, NamesNoNeighbours};
 ghost use Rattle.std.proofs.Common.{rules};
 
 mod anchored;
@@ -74,7 +74,7 @@ where
     R: Records + ExactRecords + PeekableRecords,
     R::Cell: CellText,
 {
-    ghost does = { λ _ g c h d. (h ≡ g) × MergesRuns Rows Global (map_grid R.Cell.text_of g) c d };
+    ghost does = { λ _. Merges R.Cell.text_of Rows Global };
 
     fn change(
         self,
@@ -104,7 +104,7 @@ where
     R: Records + ExactRecords + PeekableRecords,
     R::Cell: CellText,
 {
-    ghost does = { λ _ e g c h d. (h ≡ g) × MergesRuns Rows e (map_grid R.Cell.text_of g) c d };
+    ghost does = { λ _. Merges R.Cell.text_of Rows };
 
     ghost never_refused = { λ _ e g _. NamesNoNeighbours Rows e g };
 
@@ -153,7 +153,7 @@ where
     R: Records + ExactRecords + PeekableRecords,
     R::Cell: CellText,
 {
-    ghost does = { λ _ g c h d. (h ≡ g) × MergesRuns Columns Global (map_grid R.Cell.text_of g) c d };
+    ghost does = { λ _. Merges R.Cell.text_of Columns Global };
 
     fn change(
         self,
@@ -183,7 +183,7 @@ where
     R: Records + ExactRecords + PeekableRecords,
     R::Cell: CellText,
 {
-    ghost does = { λ _ e g c h d. (h ≡ g) × MergesRuns Columns e (map_grid R.Cell.text_of g) c d };
+    ghost does = { λ _. Merges R.Cell.text_of Columns };
 
     ghost never_refused = { λ _ e g _. NamesNoNeighbours Columns e g };
 

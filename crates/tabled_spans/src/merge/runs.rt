@@ -8,7 +8,7 @@ ghost use Rattle.tabled_grid.specs.Grid.{IsInside, map_grid};
 ghost use Rattle.tabled_grid.specs.Midway.{In};
 ghost use Rattle.tabled_grid.specs.declared.config.entity.Entity.{Entity};
 ghost use Rattle.tabled_grid.specs.declared.config.position.Position.{Position};
-ghost use Rattle.tabled_spans.specs.RunSteps.{AreInBlock, AreTails, RunAt, RunsFrom, StandBelow, block_in};
+ghost use Rattle.tabled_spans.specs.RunSteps.{AreTails, IsBand, RunAt, RunsFrom, RunsOf, StandBelow, block_in};
 ghost use Rattle.tabled_spans.specs.Runs.{IsNamed, Joins, further, is_free};
 
 use crate::merge::anchored::{is_anchor, up_to_row};
@@ -29,15 +29,37 @@ where
     R: Records + ExactRecords + PeekableRecords,
     R::Cell: CellText,
     requires { R.is_well_formed records.now }
-    ensures { IfOk result (λ sizes. RunsFrom axis entity (map_grid R.Cell.text_of (R.grid records.now)) cfg.now 0 0 sizes.items) }
+    ensures { IfOk result (λ sizes. RunsOf axis entity (map_grid R.Cell.text_of (R.grid records.now)) cfg.now sizes.items) }
 {
     let block = block_of(entity, records.count_rows(), records.count_columns());
+    runs_in_block(alloc, records, cfg, axis, block)
+}
+
+/// The first cell of each run among the cells of a block and the size of the run, row by row.
+///
+/// It takes time and memory for the cells of the block alone.
+pub(super) fn runs_in_block<R>(
+    alloc: Global,
+    records: &R,
+    cfg: &SpannedConfig,
+    axis: Axis,
+    block: Rectangle,
+) -> Result<Vec<Rectangle>, AllocError>
+where
+    R: Records + ExactRecords + PeekableRecords,
+    R::Cell: CellText,
+    requires well { R.is_well_formed records.now }
+    requires block { (e : Entity) × IsBand axis e (map_grid R.Cell.text_of (R.grid records.now)) block }
+    requires bottom { block.first.row + block.size.height < 2 ^ 64 }
+    requires right { block.first.col + block.size.width < 2 ^ 64 }
+    ensures { IfOk result (λ sizes. (e : Entity) → IsBand axis e (map_grid R.Cell.text_of (R.grid records.now)) block → RunsFrom axis e (map_grid R.Cell.text_of (R.grid records.now)) cfg.now block 0 0 sizes.items) }
+{
     let Rectangle { first, size } = block;
     let cover = CoverMap::of_block(alloc, cfg, first, size.height, size.width)?;
     runs(alloc, records, cfg, &cover, axis, block)
 }
 
-/// The first cell of each run among the cells of a block and the size of the run, row by row.
+/// The same, of a block that is covered.
 ///
 /// It goes back from the last cell, so that a run's length is known at its first cell.
 fn runs<R>(
@@ -52,11 +74,11 @@ where
     R: Records + ExactRecords + PeekableRecords,
     R::Cell: CellText,
     requires well { R.is_well_formed records.now }
-    requires block { (e : Entity) × AreInBlock e (map_grid R.Cell.text_of (R.grid records.now)) block }
+    requires block { (e : Entity) × IsBand axis e (map_grid R.Cell.text_of (R.grid records.now)) block }
     requires bottom { block.first.row + block.size.height < 2 ^ 64 }
     requires right { block.first.col + block.size.width < 2 ^ 64 }
     requires cover { cover.now ≡ cover_in cfg.now block.first block.size.height block.size.width }
-    ensures { IfOk result (λ sizes. (e : Entity) → AreInBlock e (map_grid R.Cell.text_of (R.grid records.now)) block → RunsFrom axis e (map_grid R.Cell.text_of (R.grid records.now)) cfg.now 0 0 sizes.items) }
+    ensures { IfOk result (λ sizes. (e : Entity) → IsBand axis e (map_grid R.Cell.text_of (R.grid records.now)) block → RunsFrom axis e (map_grid R.Cell.text_of (R.grid records.now)) cfg.now block 0 0 sizes.items) }
 {
     let Rectangle { first, size } = block;
     let mut sizes = Vec::new(alloc);
@@ -95,14 +117,14 @@ where
     R: Records + ExactRecords + PeekableRecords,
     R::Cell: CellText,
     requires well { R.is_well_formed records.now }
-    requires block { (e : Entity) × AreInBlock e (map_grid R.Cell.text_of (R.grid records.now)) block }
+    requires block { (e : Entity) × IsBand axis e (map_grid R.Cell.text_of (R.grid records.now)) block }
     requires cover { cover.now ≡ cover_in cfg.now block.first block.size.height block.size.width }
     requires inside { In block pos }
     requires ahead { StandBelow cfg.now pos.row ahead }
     requires width { length lengths.old ≡ block.size.width }
-    requires lengths { (e : Entity) → AreInBlock e (map_grid R.Cell.text_of (R.grid records.now)) block → AreTails axis e (map_grid R.Cell.text_of (R.grid records.now)) cfg.now block pos.row (pos.col + 1) lengths.old }
-    ensures run { (e : Entity) → AreInBlock e (map_grid R.Cell.text_of (R.grid records.now)) block → RunAt axis e (map_grid R.Cell.text_of (R.grid records.now)) cfg.now pos result }
-    ensures lengths { (e : Entity) → AreInBlock e (map_grid R.Cell.text_of (R.grid records.now)) block → AreTails axis e (map_grid R.Cell.text_of (R.grid records.now)) cfg.now block pos.row pos.col lengths.new }
+    requires lengths { (e : Entity) → IsBand axis e (map_grid R.Cell.text_of (R.grid records.now)) block → AreTails axis e (map_grid R.Cell.text_of (R.grid records.now)) cfg.now block pos.row (pos.col + 1) lengths.old }
+    ensures run { (e : Entity) → IsBand axis e (map_grid R.Cell.text_of (R.grid records.now)) block → RunAt axis e (map_grid R.Cell.text_of (R.grid records.now)) cfg.now pos result }
+    ensures lengths { (e : Entity) → IsBand axis e (map_grid R.Cell.text_of (R.grid records.now)) block → AreTails axis e (map_grid R.Cell.text_of (R.grid records.now)) cfg.now block pos.row pos.col lengths.new }
 {
     // Counts tell that a length is still a `usize`.
     let _ = (records.count_rows(), records.count_columns());

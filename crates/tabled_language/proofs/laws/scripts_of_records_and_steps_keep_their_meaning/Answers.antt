@@ -1,5 +1,5 @@
-use Rattle.tabled_language.proofs.PlainScripts.{parse-plain}
+use Rattle.tabled_language.proofs.BareScripts.{parse-bare}
 use Rattle.tabled_language.proofs.laws.scripts_of_records_and_steps_keep_their_meaning.Goals as goal
 
 pub returns : goal.returns
-returns c = parse-plain
+returns c = parse-bare

@@ -44,4 +44,4 @@ loop-anchor-preserved c =
     let k = c.loop-anchor.anchor-index in
     let within = c.loop-anchor-test.true in
     has_walked-more c.args.rows c.args.columns es k c.loop-anchor.reaching c.is_clear.new.reaching c.insert.new.self (at es k) c.loop-anchor.invariant c.requires.rising within (at-is es k within)
-    (All-from_recursion _ es c.requires.sizes k beyond within).width (sym c.is_inside.ensures ∙ c.if-not-is_inside.false) c.if-not-is_clear.ensures.clear c.is_clear.ensures.left c.in_ok-insert.ensures.updates.0
+    (All-from_recursion _ es c.requires.sizes k beyond within).width (sym c.is_inside.ensures ∙ c.if-not-is_inside.false) c.if-not-is_clear.ensures.clear c.is_clear.ensures.drops c.in_ok-insert.ensures.updates.0

@@ -1,5 +1,5 @@
 use Rattle.tabled_language.proofs.Common.{◌+◌, ◌∙◌, btree_map_len}
-use Rattle.tabled_language.proofs.Cleared.{clear-last, clear-none, ends_above, last_here, left-less, reaches, smaller}
+use Rattle.tabled_language.proofs.Cleared.{clear-last, clear-none, drops-less, ends_above, last_here, reaches, smaller}
 use Rattle.tabled_language.proofs.walk.is_clear.Goals as goal
 
 pub returns-then-not-ends_by-clause-clear : goal.returns-then-not-ends_by-clause-clear
@@ -16,7 +16,7 @@ loop-near-smaller c =
 pub loop-near-preserved : goal.loop-near-preserved
 loop-near-preserved c =
     let near = c.in-Some.near in
-    left-less c.args.reaching.now c.loop-near.reaching c.args.anchor c.requires.keyed c.requires.beside c.loop-near.invariant near c.remove.new.self c.in-Some.ensures
+    drops-less c.args.reaching.now c.loop-near.reaching c.args.anchor c.requires.keyed c.requires.beside c.loop-near.invariant near c.remove.new.self c.in-Some.ensures
     (ends_above c.ends_by.result (near.first.row + near.size.height) c.args.anchor.first.row c.ends_by.ensures c.if-not-ends_by.false) c.remove.ensures.updates.0
 
 pub returns-clause-clear : goal.returns-clause-clear

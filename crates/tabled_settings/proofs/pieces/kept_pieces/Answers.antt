@@ -13,6 +13,6 @@ loop-nth-preserved g c =
 pub returns : goal.returns
 returns g c =
     let cut = c.args.cut.now in
-    let all : c.loop-nth.nth ≡ cut.lines * div_ceil cut.width cut.split.index = omega (arith, c.loop-nth-test.false, c.loop-nth.auto.nth-end, ap (λ (n : ℕ). cut.lines * n) cut.counted) in
+    let all : c.loop-nth.nth ≡ cut.lines * div_ceil cut.width cut.index = omega (arith, c.loop-nth-test.false, c.loop-nth.auto.nth-end, ap (λ (n : ℕ). cut.lines * n) cut.counted) in
     let can = can_be_cut cut (g.R.GridStore.grid c.args.records.now) (g.R.GridStore.even _ c.requires.well) c.requires.lines c.requires.width in
     rw all at c.loop-nth.invariant ∙ sym (staying_is g.R.Cell.CellText.text_of _ _ _ _ can)

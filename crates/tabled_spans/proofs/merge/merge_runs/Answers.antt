@@ -1,4 +1,4 @@
-use Rattle.tabled_spans.proofs.Common.{AllByRecursion, AreInBlock, AreSorted, IsSizeAt, MergesRuns, across, ap, lines_in, map_grid, rules, subst, sym, with_sizes, ◌∙◌, ◌≡◌, ◌≤◌}
+use Rattle.tabled_spans.proofs.Common.{AllByRecursion, IsSizeAt, MergesRuns, across, ap, lines_in, map_grid, rules, subst, sym, with_sizes, ◌∙◌, ◌≡◌, ◌≤◌}
 use Rattle.tabled_spans.proofs.Blocks.{neighbours, none_merged}
 use Rattle.tabled_spans.proofs.RunLists.{runs_merged, sizes_full}
 use Rattle.tabled_spans.proofs.merge.merge_runs.Goals as goal

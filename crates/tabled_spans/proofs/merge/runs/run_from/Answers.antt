@@ -1,4 +1,4 @@
-use Rattle.tabled_spans.proofs.Common.{◌+◌, ◌-◌, ◌<◌, ◌^◌, ◌∙◌, ◌≡◌, Joins, arith, further, line_of, ltb-true, map_grid, refl, rules, slice_index, subst, sym}
+use Rattle.tabled_spans.proofs.Common.{◌+◌, ◌-◌, ◌<◌, ◌^◌, ◌∙◌, ◌≡◌, In, Joins, arith, further, line_of, ltb-true, map_grid, refl, rules, slice_index, subst, sym}
 use Rattle.tabled_spans.proofs.Runs.{continues, run_at, same_last}
 use Rattle.tabled_spans.proofs.Tails.{in_front, tail_alone, tail_fits, tail_here, tail_joins, tail_more, tails_first, tails_set}
 use Rattle.tabled_spans.proofs.merge.runs.run_from.Goals as goal
@@ -12,7 +12,7 @@ returns-in_default-clause-run g c = λ e is.
     let many = slice_index c.args.lengths.now (p.col - block.first.col) in
     let first : line_of axis p ≡ line_of axis block.first = search (rules, c.in_default.ensures.none) in
     let tail = tail_here axis e texts c.args.cfg.now block is p c.requires.inside c.args.lengths.now (c.requires.lengths e is) in
-    run_at axis e texts c.args.cfg.now p many (further axis (many - 1) p) tail.some refl tail.joins tail.ends (λ q next j. in_front axis e texts c.args.cfg.now block is axis p q first next ((is q).0 j.here))
+    run_at axis e texts c.args.cfg.now p many (further axis (many - 1) p) tail.some refl tail.joins tail.ends (λ q next j. in_front axis e texts c.args.cfg.now block is axis p q first next (is.back q (subst (In block) (sym next) c.requires.inside) j.here))
 
 pub returns-in_default-clause-lengths : goal.returns-in_default-clause-lengths
 returns-in_default-clause-lengths g c = λ e is.
@@ -21,7 +21,7 @@ returns-in_default-clause-lengths g c = λ e is.
     tails_first c.args.axis e texts c.args.cfg.now c.args.block is c.args.pos c.requires.inside c.args.lengths.now (c.requires.lengths e is) first
 
 pub joins-requires-clause-inside : goal.joins-requires-clause-inside
-joins-requires-clause-inside g c = let at = ((c.requires.block.1 c.args.pos).1 c.requires.inside).inside in record { row = at.row; col = at.col }
+joins-requires-clause-inside g c = let at = (c.requires.block.1.named c.args.pos c.requires.inside).inside in record { row = at.row; col = at.col }
 
 pub joins-requires-clause-free : goal.joins-requires-clause-free
 joins-requires-clause-free g c = λ some.
@@ -41,7 +41,7 @@ overflow_add-lengths g c =
     let is = c.requires.block.1 in
     let tail = tail_here c.args.axis e texts c.args.cfg.now block is c.args.pos c.requires.inside c.args.lengths.now (c.requires.lengths e is) in
     let many = slice_index c.args.lengths.now (c.args.pos.col - block.first.col) in
-    let few : many + 1 < 2 ^ 64 = tail_fits c.args.axis e texts c.args.cfg.now c.in-Some.last c.args.pos many (2 ^ 64) c.in-Some.ensures.some.0 ((is c.args.pos).1 c.requires.inside).inside tail (omega (arith, c.count_rows.ensures.rows)) (omega (arith, c.count_columns.ensures.columns)) in
+    let few : many + 1 < 2 ^ 64 = tail_fits c.args.axis e texts c.args.cfg.now c.in-Some.last c.args.pos many (2 ^ 64) c.in-Some.ensures.some.0 (is.named c.args.pos c.requires.inside).inside tail (omega (arith, c.count_rows.ensures.rows)) (omega (arith, c.count_columns.ensures.columns)) in
     omega (arith, few)
 
 pub returns-then-joins-clause-run : goal.returns-then-joins-clause-run
@@ -49,7 +49,7 @@ returns-then-joins-clause-run g c = λ e is.
     let texts = map_grid g.R.Cell.CellText.text_of (g.R.GridStore.grid c.args.records.now) in
     let last = c.in-Some.last in
     let some = c.in-Some.ensures.some in
-    continues c.args.axis e texts c.args.cfg.now c.args.pos last some.0 ((c.joins.ensures e ((is last).1 some.1) ((is c.args.pos).1 c.requires.inside)).0 c.if-joins.true)
+    continues c.args.axis e texts c.args.cfg.now c.args.pos last some.0 ((c.joins.ensures e (is.named last some.1) (is.named c.args.pos c.requires.inside)).0 c.if-joins.true)
 
 pub returns-then-joins-clause-lengths : goal.returns-then-joins-clause-lengths
 returns-then-joins-clause-lengths g c = λ e is.
@@ -60,7 +60,7 @@ returns-then-joins-clause-lengths g c = λ e is.
     let some = c.in-Some.ensures.some in
     let many = slice_index lengths (c.args.pos.col - block.first.col) in
     let tail = tail_here c.args.axis e texts c.args.cfg.now block is c.args.pos c.requires.inside lengths (c.requires.lengths e is) in
-    let joined = (c.joins.ensures e ((is last).1 some.1) ((is c.args.pos).1 c.requires.inside)).0 c.if-joins.true in
+    let joined = (c.joins.ensures e (is.named last some.1) (is.named c.args.pos c.requires.inside)).0 c.if-joins.true in
     let longer = tail_more c.args.axis e texts c.args.cfg.now last c.args.pos many some.0 joined tail in
     tails_set c.args.axis e texts c.args.cfg.now block is c.args.pos c.requires.inside lengths (c.requires.lengths e is) last (many + 1) some.0 some.1 longer
 
@@ -74,7 +74,7 @@ returns-clause-run g c = λ e is.
     let some = c.in-Some.ensures.some in
     let many = slice_index c.args.lengths.now (p.col - block.first.col) in
     let tail = tail_here axis e texts c.args.cfg.now block is p c.requires.inside c.args.lengths.now (c.requires.lengths e is) in
-    let joined = c.joins.ensures e ((is last).1 some.1) ((is p).1 c.requires.inside) in
+    let joined = c.joins.ensures e (is.named last some.1) (is.named p c.requires.inside) in
     run_at axis e texts c.args.cfg.now p many (further axis (many - 1) p) tail.some refl tail.joins tail.ends (λ q next j. let t = joined.1 (subst (Joins axis e texts c.args.cfg.now) (same_last axis q last (next ∙ sym some.0)) j) in let f = c.if-joins.false in cc)
 
 pub returns-clause-lengths : goal.returns-clause-lengths
@@ -82,6 +82,6 @@ returns-clause-lengths g c = λ e is.
     let texts = map_grid g.R.Cell.CellText.text_of (g.R.GridStore.grid c.args.records.now) in
     let last = c.in-Some.last in
     let some = c.in-Some.ensures.some in
-    let joined = c.joins.ensures e ((is last).1 some.1) ((is c.args.pos).1 c.requires.inside) in
+    let joined = c.joins.ensures e (is.named last some.1) (is.named c.args.pos c.requires.inside) in
     let alone = tail_alone c.args.axis e texts c.args.cfg.now last (λ j. let t = joined.1 j in let f = c.if-joins.false in cc) in
     tails_set c.args.axis e texts c.args.cfg.now c.args.block is c.args.pos c.requires.inside c.args.lengths.now (c.requires.lengths e is) last 1 some.0 some.1 alone

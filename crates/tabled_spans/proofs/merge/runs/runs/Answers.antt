@@ -11,7 +11,7 @@ loop-i-init g c =
     let end = block.first.row + block.size.height in
     let ones : c.in_ok-lengths.lengths.items ≡ replicate block.size.width 1 = search (rules, c.in_ok-lengths.ensures.items) in (
       λ e is. (
-        subst (λ es. RunsFrom c.args.axis e texts c.args.cfg.now end block.first.col (reverse es)) (sym c.new-sizes.ensures.items) (none_below c.args.axis e texts c.args.cfg.now block (λ p. (is p).0) end block.first.col (omega arith)),
+        subst (λ es. RunsFrom c.args.axis e texts c.args.cfg.now block end block.first.col (reverse es)) (sym c.new-sizes.ensures.items) (none_below c.args.axis e texts c.args.cfg.now block end block.first.col (omega arith)),
         subst (AreTails c.args.axis e texts c.args.cfg.now block end block.first.col) (sym ones) (tails_below c.args.axis e texts c.args.cfg.now block is end block.first.col (omega arith)),
       ),
       λ row _. rw c.anchors-ahead.ensures.anchors (stand_none c.args.cfg.now row),
@@ -25,7 +25,7 @@ loop-j-init g c =
     let j = block.first.col + block.size.width in
     let back : c.loop-i.i ≡ i + 1 = omega (arith, c.loop-i-test.true) in (
       λ e is. let held = c.loop-i.invariant.0 e is in (
-        from_end c.args.axis e texts c.args.cfg.now block (λ p. (is p).0) i j _ (omega arith) (subst (λ n. RunsFrom c.args.axis e texts c.args.cfg.now n block.first.col (reverse c.loop-i.sizes.items)) back held.0),
+        from_end c.args.axis e texts c.args.cfg.now block i j _ (omega arith) (subst (λ n. RunsFrom c.args.axis e texts c.args.cfg.now block n block.first.col (reverse c.loop-i.sizes.items)) back held.0),
         tails_end c.args.axis e texts c.args.cfg.now block is i j _ (omega arith) (subst (λ n. AreTails c.args.axis e texts c.args.cfg.now block n block.first.col c.loop-i.lengths.items) back held.1),
       ),
       omega arith,
@@ -42,7 +42,7 @@ loop-i-preserved g c =
     let texts = map_grid g.R.Cell.CellText.text_of (g.R.GridStore.grid c.args.records.now) in
     let block = c.args.block in
     let i = c.loop-i.i - 1 in (
-      λ e is. subst (λ n. RunsFrom c.args.axis e texts c.args.cfg.now i n (reverse c.loop-j.sizes.items) × AreTails c.args.axis e texts c.args.cfg.now block i n c.loop-j.lengths.items) (omega (arith, c.loop-j-test.false, c.loop-j.invariant.1)) (c.loop-j.invariant.0 e is),
+      λ e is. subst (λ n. RunsFrom c.args.axis e texts c.args.cfg.now block i n (reverse c.loop-j.sizes.items) × AreTails c.args.axis e texts c.args.cfg.now block i n c.loop-j.lengths.items) (omega (arith, c.loop-j-test.false, c.loop-j.invariant.1)) (c.loop-j.invariant.0 e is),
       λ row low. stand_higher c.args.cfg.now i row _ (omega (arith, low)) c.up_to_row-ahead.ensures,
     )
 
@@ -57,14 +57,14 @@ loop-j-preserved-in-Continue-branch-2 g c = (
       let many = c.run_from-many.result in
       let es = c.loop-j.sizes.items in
       let held = c.loop-j.invariant.0 e is in
-      let so_far = subst (λ n. RunsFrom c.args.axis e texts c.args.cfg.now i n (reverse es)) back held.0 in
+      let so_far = subst (λ n. RunsFrom c.args.axis e texts c.args.cfg.now block i n (reverse es)) back held.0 in
       let added : c.push.new.self.items ≡ es ++ (rectangle (place i j) (size_of_run c.args.axis many) ∷ []) = subst (λ s. c.push.new.self.items ≡ es ++ (rectangle (place i j) s ∷ [])) c.resized-size.ensures.size c.in_ok-push.ensures.items in
       let first : reverse c.push.new.self.items ≡ rectangle (place i j) (size_of_run c.args.axis many) ∷ reverse es = ap reverse added ∙ reverse-append es (rectangle (place i j) (size_of_run c.args.axis many) ∷ []) in
       let new = c.run_from-many.new.lengths in
       let tails = c.run_from-many.ensures.lengths e is in
       let same : length c.loop-j.lengths.items ≡ c.loop-j.lengths.len = search rules in
       let long : length new ≡ c.loop-j.lengths.len = omega (arith, tails.size, held.1.size, same) in (
-        subst (RunsFrom c.args.axis e texts c.args.cfg.now i j) (sym first) (run_put c.args.axis e texts c.args.cfg.now i j _ so_far many (omega (arith, c.if-many-gt1.true)) (c.run_from-many.ensures.run e is)),
+        subst (RunsFrom c.args.axis e texts c.args.cfg.now block i j) (sym first) (run_put c.args.axis e texts c.args.cfg.now block i j _ so_far many (omega (arith, c.if-many-gt1.true)) (record { top = omega (arith, c.loop-i-test.true); bottom = omega (arith, c.loop-i.auto.i, c.loop-i-test.true); left = omega (arith, c.loop-j-test.true); right = omega (arith, c.loop-j.auto.j, c.loop-j-test.true) }) (c.run_from-many.ensures.run e is)),
         subst (AreTails c.args.axis e texts c.args.cfg.now block i j) (sym (take_at new (drop (length new) c.loop-j.lengths.items) c.loop-j.lengths.len long)) tails,
       ),
   omega (arith, c.loop-j-test.true),
@@ -79,12 +79,12 @@ loop-j-preserved g c = (
       let j = c.loop-j.j - 1 in
       let back : c.loop-j.j ≡ j + 1 = omega (arith, c.loop-j-test.true) in
       let held = c.loop-j.invariant.0 e is in
-      let so_far = subst (λ n. RunsFrom c.args.axis e texts c.args.cfg.now i n (reverse c.loop-j.sizes.items)) back held.0 in
+      let so_far = subst (λ n. RunsFrom c.args.axis e texts c.args.cfg.now block i n (reverse c.loop-j.sizes.items)) back held.0 in
       let new = c.run_from-many.new.lengths in
       let tails = c.run_from-many.ensures.lengths e is in
       let same : length c.loop-j.lengths.items ≡ c.loop-j.lengths.len = search rules in
       let long : length new ≡ c.loop-j.lengths.len = omega (arith, tails.size, held.1.size, same) in (
-        none_put c.args.axis e texts c.args.cfg.now i j _ so_far c.run_from-many.result (omega (arith, c.if-many-gt1.false)) (c.run_from-many.ensures.run e is),
+        none_put c.args.axis e texts c.args.cfg.now block i j _ so_far c.run_from-many.result (omega (arith, c.if-many-gt1.false)) (c.run_from-many.ensures.run e is),
         subst (AreTails c.args.axis e texts c.args.cfg.now block i j) (sym (take_at new (drop (length new) c.loop-j.lengths.items) c.loop-j.lengths.len long)) tails,
       ),
   omega (arith, c.loop-j-test.true),
@@ -93,4 +93,4 @@ loop-j-preserved g c = (
 pub returns : goal.returns
 returns g c = λ e is.
     let texts = map_grid g.R.Cell.CellText.text_of (g.R.GridStore.grid c.args.records.now) in
-    subst (RunsFrom c.args.axis e texts c.args.cfg.now 0 0) (sym c.reverse.ensures.items) (from_first c.args.axis e texts c.args.cfg.now c.args.block (λ p. (is p).0) c.loop-i.i _ (omega (arith, c.loop-i-test.false)) (c.loop-i.invariant.0 e is).0)
+    subst (RunsFrom c.args.axis e texts c.args.cfg.now c.args.block 0 0) (sym c.reverse.ensures.items) (from_first c.args.axis e texts c.args.cfg.now c.args.block c.loop-i.i _ (omega (arith, c.loop-i-test.false)) (c.loop-i.invariant.0 e is).0)
