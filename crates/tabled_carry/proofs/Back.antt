@@ -1,5 +1,5 @@
 -- A map of places and one that leads back.
-use Rattle.tabled_carry.proofs.Common.{◌∙◌, ◌≡◌, AreSpanSizes, Carries, CarriesAll, Fits, HasArea, In, IsImage, LeadsBack, Places, Position, Rectangle, Size, Some, SpanMap, ap, carried, get, image, keep_fitting-all, rectangle, subst, ℕ}
+use Rattle.tabled_carry.proofs.Common.{◌∙◌, ◌≡◌, Carries, CarriesAll, Fits, HasArea, In, IsImage, LeadsBack, Places, Position, Rectangle, Size, Some, SpanMap, ap, carried, get, image, keep_fitting-all, rectangle, span_at, subst, ℕ}
 use Rattle.tabled_carry.proofs.RectanglesCarried.{carries_one, image_fits, image_is, image_one, takes_one}
 
 module _ (there back : Places) (leads : LeadsBack there back) where
@@ -12,11 +12,11 @@ module _ (there back : Places) (leads : LeadsBack there back) where
   }
 
   -- where each rectangle is carried, the image leads back to the map
-  pub image_back : (m n : SpanMap) → AreSpanSizes m → IsImage there m n → CarriesAll there m → IsImage back n m
-  image_back m n sizes is all = record { comes = comes; goes = goes }
+  pub image_back : (m n : SpanMap) → IsImage there m n → CarriesAll there m → IsImage back n m
+  image_back m n is all = record { comes = comes; goes = goes }
     where
       full : (a : Position) (s : Size) → get m a ≡ Some s → HasArea (rectangle a s)
-      full a s h = let size = sizes.each a s h in record { height = size.height; width = size.width }
+      full a s h = let size = span_at m a s h in record { height = size.height; width = size.width }
 
       comes : (a : Position) (s : Size) → get m a ≡ Some s → (b : Position) × (t : Size) × (get n b ≡ Some t) × Carries back (rectangle b t) (rectangle a s) × HasArea (rectangle a s)
       comes a s h = let f = all.each a s h in (f.0.first, f.0.size, is.goes a f.0.first s f.0.size h f.1 f.2, carries_back (rectangle a s) f.0 f.1, full a s h)
@@ -31,7 +31,7 @@ module _ (there back : Places) (leads : LeadsBack there back) where
   pub image_twice : (m : SpanMap) (rows columns : ℕ) → Fits m rows columns → CarriesAll there m → image back (image there m) ≡ m
   image_twice m rows columns fits all =
       let is = image_is there m rows columns fits in
-      image_one back (image there m) (image back (image there m)) m (image_is back (image there m) there.rows there.columns (image_fits there m (image there m) rows columns is fits)) (image_back m (image there m) fits.sizes is all)
+      image_one back (image there m) (image back (image there m)) m (image_is back (image there m) there.rows there.columns (image_fits there m (image there m) rows columns is fits)) (image_back m (image there m) is all)
 
   -- and what fits is carried there and back
   pub carried_back : (m : SpanMap) (rows columns : ℕ) → Fits m rows columns → CarriesAll there m → carried back there.rows there.columns (carried there rows columns m) ≡ m

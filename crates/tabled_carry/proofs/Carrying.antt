@@ -1,8 +1,8 @@
 -- A list of the images of rectangles, as it grows and once it is sorted.
-use Rattle.tabled_carry.proofs.Common.{[], ◌&&◌, ◌++◌, ◌+◌, ◌<◌, ◌==◌, ◌∙◌, ◌∷◌, ◌≡◌, ◌≤◌, ◌⊎◌, AllByRecursion, AreAnchors, AreSorted, Bool, Carries, Equal, Fits, Greater, HasArea, In, IsImage, IsPermutation, IsSortedByKey, IsSpanSize, Less, List, Member, Ordering, Places, Position, Rectangle, Size, Some, T, add-one, and_from, and_parts, any-from, any-member, ap, ap₂, arith, below-member, carries, cases_Bool, common_steps, cond, earlier, eq-eqb, eqb-true, false, find-member, get, get-map_of, get_or, halves, holds-from, image, inl, inr, is_lt, length, list_any, list_any-IsPermutation, map_of, member-either, member-left, member-right, ordering_reverse, position_cmp, positions_exact, positions_total, rectangle, refl, same_place, same_place-self, same_place-true, sized, sorted-find, subst, suc, sum_by, sum_by-IsPermutation, sym, take, take_more, true, zero, ℕ}
+use Rattle.tabled_carry.proofs.Common.{[], ◌&&◌, ◌++◌, ◌+◌, ◌<◌, ◌==◌, ◌∙◌, ◌∷◌, ◌≡◌, ◌≤◌, ◌⊎◌, AreAnchors, AreSorted, Bool, Carries, Equal, Fits, Greater, HasArea, In, IsImage, IsPermutation, IsSortedByKey, Less, List, Member, Ordering, Places, Position, Rectangle, Size, Some, T, add-one, and_from, and_parts, any-from, any-member, ap, ap₂, arith, below-member, carries, cases_Bool, common_steps, cond, earlier, eq-eqb, eqb-true, false, find-member, get, get-map_of, get_or, halves, holds-from, image, inl, inr, is_lt, length, list_any, list_any-IsPermutation, map_of, member-either, member-left, member-right, ordering_reverse, position_cmp, positions_exact, positions_total, rectangle, refl, same_place, same_place-self, same_place-true, sized, sorted-find, subst, suc, sum_by, sum_by-IsPermutation, sym, take, take_more, true, zero, ℕ, span_at}
 use Rattle.std.proofs.lemmas.List.Sums.{sum_by-append, sum_by-cons}
 use Rattle.tabled_grid.proofs.MergedAnchors.{below_more}
-use Rattle.tabled_carry.proofs.RectanglesCarried.{carries_more, first_in, image_is, image_one, takes_one, carries_one}
+use Rattle.tabled_carry.proofs.RectanglesCarried.{carries_more, first_in, image_is, image_one, takes_one, carries_one, sizes_of}
 
 -- how many of an anchor are at a place
 abbrev pub at_place : Position → Rectangle → ℕ
@@ -125,33 +125,29 @@ rising (e ∷ f ∷ es) up once = by (position_cmp e.first f.first) refl (rising
         let falls : position_cmp f.first e.first ≡ Less = positions_total.antisymm f.first e.first ∙ ap ordering_reverse is in
         let never : true ≡ false = sym (ap is_lt falls) ∙ up 0 e (omega arith) in cc
 
-sizes_of : (ys : List Rectangle) → ((f : Rectangle) → Member f ys → IsSpanSize f.size) → AllByRecursion (λ (f : Rectangle). IsSpanSize f.size) ys
-sizes_of [] each = tt
-sizes_of (f ∷ ys) each = (each f (inl refl), sizes_of ys (λ g m. each g (inr m)))
-
 -- the images of all rectangles of a list, row by row, make the image of its map
 module _ (places : Places) (es ys : List Rectangle) (rows columns : ℕ) (valid : AreAnchors es) (fits : Fits (map_of es) rows columns) (i : Images places es ys) (up : AreSorted ys) where
   has : (e : Rectangle) → Member e es → get (map_of es) e.first ≡ Some e.size
-  has e m = get-map_of es e.first valid.sorted ∙ sorted-find es e valid.sorted m
+  has e m = get-map_of es e.first valid ∙ sorted-find es e valid.sorted m
+
+  pub images-anchors : AreAnchors ys
+  images-anchors = record { sorted = up; sizes = sizes_of ys (λ f m. let c = i.comes f m in carries_more places c.0 f c.3 c.2 (span_at (map_of es) c.0.first c.0.size (has c.0 c.1))) }
 
   is : IsImage places (map_of es) (map_of ys)
   is = record { comes = comes; goes = goes }
     where
       comes : (b : Position) (t : Size) → get (map_of ys) b ≡ Some t → (a : Position) × (s : Size) × (get (map_of es) a ≡ Some s) × Carries places (rectangle a s) (rectangle b t) × HasArea (rectangle b t)
       comes b t h =
-          let c = i.comes (rectangle b t) (find-member ys b t (sym (get-map_of ys b up) ∙ h)) in
+          let c = i.comes (rectangle b t) (find-member ys b t (sym (get-map_of ys b images-anchors) ∙ h)) in
           (c.0.first, c.0.size, has c.0 c.1, c.2, c.3)
 
       goes : (a b : Position) (s t : Size) → get (map_of es) a ≡ Some s → Carries places (rectangle a s) (rectangle b t) → HasArea (rectangle b t) → get (map_of ys) b ≡ Some t
       goes a b s t h c full =
-          let m = find-member es a s (sym (get-map_of es a valid.sorted) ∙ h) in
-          get-map_of ys b up ∙ sorted-find ys (rectangle b t) up (i.goes (rectangle a s) (rectangle b t) m c full)
+          let m = find-member es a s (sym (get-map_of es a valid) ∙ h) in
+          get-map_of ys b images-anchors ∙ sorted-find ys (rectangle b t) up (i.goes (rectangle a s) (rectangle b t) m c full)
 
   pub images-make : map_of ys ≡ image places (map_of es)
   images-make = image_one places (map_of es) (map_of ys) (image places (map_of es)) is (image_is places (map_of es) rows columns fits)
-
-  pub images-anchors : AreAnchors ys
-  images-anchors = record { sorted = up; sizes = sizes_of ys (λ f m. let c = i.comes f m in carries_more places c.0 f c.3 c.2 (fits.sizes.each c.0.first c.0.size (has c.0 c.1))) }
 
 at-member : (es : List Rectangle) (i : ℕ) (d : Rectangle) → i < length es → Member (get_or es i d) es
 at-member [] i d here = absurd (omega arith)
@@ -180,7 +176,7 @@ never_before p q h same = grind (arith, common_steps, earlier)
 -- the next rectangle of a list
 module _ (places : Places) (es xs : List Rectangle) (i rows columns : ℕ) (d : Rectangle) (valid : AreAnchors es) (fits : Fits (map_of es) rows columns) (here : i < length es) where
   got : (e : Rectangle) → Member e es → get (map_of es) e.first ≡ Some e.size
-  got e m = get-map_of es e.first valid.sorted ∙ sorted-find es e valid.sorted m
+  got e m = get-map_of es e.first valid ∙ sorted-find es e valid.sorted m
 
   next : Rectangle
   next = get_or es i d

@@ -1,8 +1,8 @@
 -- What fits is what lies inside and shares no cell with another rectangle.
-use Rattle.tabled_carry.proofs.Common.{◌||◌, ◌∙◌, ◌≡◌, ◌⊎◌, AreSpanSizes, Bool, In, IsFree, Member, Position, Rectangle, Size, Some, SpanMap, all-from, all-member, anchors-fitting, anchors-of, and_from, and_parts, ap, cases_Bool, false, filter-from, filter-member, find-member, fits_among, fitting, get, get-map_of, get-rectangles, holds-from, holds-true, inl, inr, keep_fitting, le-leb, leb-true, lies_inside, list_all, meets, meets-true, not, not_from_false, or_cases, or_left, or_right, rectangle, rectangles, rectangles_sorted, same_place, same_place-self, same_place-true, sorted-find, subst, sym, true, ℕ}
+use Rattle.tabled_carry.proofs.Common.{◌||◌, ◌∙◌, ◌≡◌, ◌⊎◌, Bool, In, IsFree, Member, Position, Rectangle, Size, Some, SpanMap, all-from, all-member, anchors-fitting, and_from, and_parts, ap, cases_Bool, false, filter-from, filter-member, find-member, fits_among, fitting, get, get-map_of, get-rectangles, holds-from, holds-true, inl, inr, keep_fitting, le-leb, leb-true, lies_inside, list_all, meets, meets-true, not, not_from_false, or_cases, or_left, or_right, rectangle, rectangles, rectangles_anchors, rectangles_sorted, same_place, same_place-self, same_place-true, sorted-find, span_at, subst, sym, true, ℕ}
 use Rattle.tabled_grid.proofs.FittingAnchors.{shared, sharing}
 
-module _ (m : SpanMap) (rows columns : ℕ) (sizes : AreSpanSizes m) where
+module _ (m : SpanMap) (rows columns : ℕ) where
   abbrev alone_from : Rectangle → Rectangle → Bool
   alone_from e f = same_place e.first f.first || not (meets e f)
 
@@ -14,8 +14,8 @@ module _ (m : SpanMap) (rows columns : ℕ) (sizes : AreSpanSizes m) where
 
   pub kept_free : (a : Position) (s : Size) → get (keep_fitting rows columns m) a ≡ Some s → IsFree m rows columns a s
   kept_free a s h =
-      let left = anchors-fitting rows columns (rectangles m) (anchors-of m sizes) in
-      let found = filter-member (fits_among rows columns (rectangles m)) (rectangle a s) (rectangles m) (find-member (fitting rows columns (rectangles m)) a s (sym (get-map_of (fitting rows columns (rectangles m)) a left.sorted) ∙ h)) in
+      let left = anchors-fitting rows columns (rectangles m) (rectangles_anchors m) in
+      let found = filter-member (fits_among rows columns (rectangles m)) (rectangle a s) (rectangles m) (find-member (fitting rows columns (rectangles m)) a s (sym (get-map_of (fitting rows columns (rectangles m)) a left) ∙ h)) in
       let parts = and_parts (lies_inside rows columns (rectangle a s)) (list_all (alone_from (rectangle a s)) (rectangles m)) found.1 in
       let room = and_parts _ _ parts.0 in
       record {
@@ -31,16 +31,16 @@ module _ (m : SpanMap) (rows columns : ℕ) (sizes : AreSpanSizes m) where
 
   pub free_kept : (a : Position) (s : Size) → IsFree m rows columns a s → get (keep_fitting rows columns m) a ≡ Some s
   free_kept a s free =
-      let left = anchors-fitting rows columns (rectangles m) (anchors-of m sizes) in
+      let left = anchors-fitting rows columns (rectangles m) (rectangles_anchors m) in
       let fits = and_from (lies_inside rows columns (rectangle a s)) (list_all (alone_from (rectangle a s)) (rectangles m)) (and_from _ _ (le-leb _ _ free.bottom) (le-leb _ _ free.right)) (all-from (alone_from (rectangle a s)) (rectangles m) (λ f h. by f h (cases_Bool (meets (rectangle a s) f)))) in
-      get-map_of (fitting rows columns (rectangles m)) a left.sorted
+      get-map_of (fitting rows columns (rectangles m)) a left
       ∙ sorted-find (fitting rows columns (rectangles m)) (rectangle a s) left.sorted (filter-from (fits_among rows columns (rectangles m)) (rectangle a s) (rectangles m) (member a s free.here) fits)
     where
       by : (f : Rectangle) → Member f (rectangles m) → (meets (rectangle a s) f ≡ true) ⊎ (meets (rectangle a s) f ≡ false) → alone_from (rectangle a s) f ≡ true
       by f h (inr out) = or_right (same_place a f.first) (not (meets (rectangle a s) f)) (not_from_false (meets (rectangle a s) f) out)
       by f h (inl met) =
-          let size = sizes.each a s free.here in
-          let other = sizes.each f.first f.size (got f h) in
+          let size = span_at m a s free.here in
+          let other = span_at m f.first f.size (got f h) in
           let cell = shared a f.first s f.size size.height size.width other.height other.width (meets-true (rectangle a s) f met) in
           let same = free.alone f.first f.size cell.0 (got f h) (holds-true (rectangle a s) cell.0 cell.1) (holds-true f cell.0 cell.2) in
           or_left (same_place a f.first) (not (meets (rectangle a s) f)) (subst (λ (p : Position). same_place a p ≡ true) same (same_place-self a))

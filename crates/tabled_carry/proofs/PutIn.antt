@@ -1,5 +1,5 @@
 -- Merged cells once a row or a column is put in.
-use Rattle.tabled_carry.proofs.Common.{[], ◌+◌, ◌∷◌, ◌≡◌, ◌≤◌, ◌⊎◌, Columns, Fits, List, Position, Rectangle, Size, Some, SpanMap, arith, cases_Bool, cond, crosses_line, eqb-true, false, false_from_ne_true, fits_beside, get, inl, inr, is_crossed, line_of, list_any, ltb-true, nat_eq, nat_lt, rectangles, refl, shifted, true, ℕ}
+use Rattle.tabled_carry.proofs.Common.{[], ◌+◌, ◌∷◌, ◌≡◌, ◌≤◌, ◌⊎◌, Columns, Fits, List, Position, Rectangle, Size, Some, SpanMap, arith, cases_Bool, cond, crosses_line, eqb-true, false, false_from_ne_true, fits_beside, get, inl, inr, is_crossed, line_of, list_any, ltb-true, nat_eq, nat_lt, rectangles, refl, shifted, span_at, true, ℕ}
 use Rattle.tabled_grid.specs.declared.records.axis.Axis.{Axis}
 
 none_cross : (axis : Axis) (es : List Rectangle) → list_any (crosses_line axis 0) es ≡ false
@@ -20,8 +20,8 @@ fits_beside_rows m j rows columns free fits = either (cases_Bool (nat_eq rows 0)
     wider = fits_beside m j rows columns free fits
 
     inside : rows ≡ 0 → (a : Position) (size : Size) → get (shifted Columns j m) a ≡ Some size → (a.row + size.height ≤ rows) × (a.col + size.width ≤ columns)
-    inside none a size has = absurd (omega (arith, none, (wider.sizes.each a size has).height, (wider.inside a size has).0))
+    inside none a size has = absurd (omega (arith, none, (span_at (shifted Columns j m) a size has).height, (wider.inside a size has).0))
 
     either : (nat_eq rows 0 ≡ true) ⊎ (nat_eq rows 0 ≡ false) → Fits (shifted Columns j m) rows (cond (nat_eq rows 0) columns (columns + 1))
-    either (inl t) = rw t (record { sizes = wider.sizes; inside = inside (eqb-true _ _ t); apart = wider.apart })
+    either (inl t) = rw t (record { inside = inside (eqb-true _ _ t); apart = wider.apart })
     either (inr f) = rw f wider

@@ -1,5 +1,5 @@
 -- Rectangles carried along fit the new table, and the map of them is the image.
-use Rattle.tabled_carry.proofs.Common.{◌+◌, ◌-◌, ◌<◌, ◌∙◌, ◌≡◌, ◌≤◌, ◌⊎◌, Bool, Carries, Fits, HasArea, In, IsImage, IsSpanSize, Member, None, Option, Places, Position, Rectangle, Size, Some, SpanMap, Takes, alike, all-from, all-member, and_from, and_parts, any-from, any-member, ap, ap₂, arith, block, block-from, block-member, carries, cases_lt, cells_in, common_steps, false, filter-from, filter-member, find-member, flat_map-from, flat_map-member, get, get-from_entries, get-rectangles, holds, holds-from, holds-true, image, images, inl, inr, list_all, list_any, map, map-from, map-member, member-find, old_place_passes, pairs, place, positions_exact, positions_total, rectangle, rectangles, rectangles_inside, rectangles_sorted, refl, same_Some, same_map, same_place, same_place-self, same_place-true, sized, sorted-find, subst, sym, true, ℕ}
+use Rattle.tabled_carry.proofs.Common.{[], ◌+◌, ◌-◌, ◌<◌, ◌∙◌, ◌∷◌, ◌≡◌, ◌≤◌, ◌⊎◌, AllByRecursion, Bool, Carries, Fits, HasArea, HasSize, In, IsImage, IsSpanSize, List, Member, None, Option, Places, Position, Rectangle, Size, Some, SpanMap, Takes, alike, all-from, all-member, and_from, and_parts, any-from, any-member, ap, ap₂, arith, block, block-from, block-member, carries, cases_lt, cells_in, common_steps, false, filter-from, filter-member, find-member, find_at, flat_map-from, flat_map-member, get, get-from_rectangles, get-rectangles, holds, holds-from, holds-true, image, images, inl, inr, list_all, list_any, map, map-from, map-member, member-find, old_place_passes, place, rectangle, rectangles, rectangles_inside, rectangles_sorted, refl, same_Some, same_map, same_place, same_place-self, same_place-true, sized, sorted-find, span_at, subst, sym, true, ℕ}
 
 -- the first and the last cell of a rectangle
 abbrev last_of : Rectangle → Position
@@ -23,6 +23,10 @@ same_cells f g full full' to back =
     let height : f.size.height ≡ g.size.height = omega (arith, row, c.bottom, d.bottom, full.height, full'.height) in
     let width : f.size.width ≡ g.size.width = omega (arith, col, c.right, d.right, full.width, full'.width) in
     ap₂ rectangle (ap₂ place row col) (ap₂ sized height width)
+
+pub sizes_of : (ys : List Rectangle) → ((f : Rectangle) → Member f ys → IsSpanSize f.size) → AllByRecursion HasSize ys
+sizes_of [] each = tt
+sizes_of (f ∷ ys) each = (each f (inl refl), sizes_of ys (λ g m. each g (inr m)))
 
 module _ (places : Places) where
   -- a new place has one old place
@@ -66,11 +70,8 @@ module _ (places : Places) where
 
   -- an image of what fits, fits
   pub image_fits : (old new : SpanMap) (rows columns : ℕ) → IsImage places old new → Fits old rows columns → Fits new places.rows places.columns
-  image_fits old new rows columns is fits = record { sizes = record { each = sizes }; inside = inside; apart = apart }
+  image_fits old new rows columns is fits = record { inside = inside; apart = apart }
     where
-      sizes : (b : Position) (t : Size) → get new b ≡ Some t → IsSpanSize t
-      sizes b t has = let c = is.comes b t has in carries_more (rectangle c.0 c.1) (rectangle b t) c.4 c.3 (fits.sizes.each c.0 c.1 c.2)
-
       inside : (b : Position) (t : Size) → get new b ≡ Some t → (b.row + t.height ≤ places.rows) × (b.col + t.width ≤ places.columns)
       inside b t has =
           let c = is.comes b t has in
@@ -92,7 +93,7 @@ module _ (places : Places) where
 
   -- a map has one image
   pub image_one : (old new other : SpanMap) → IsImage places old new → IsImage places old other → new ≡ other
-  image_one old new other is also = same_map positions_total positions_exact new other (λ q. by q (get new q) refl (get other q) refl)
+  image_one old new other is also = same_map new other (λ q. by q (get new q) refl (get other q) refl)
     where
       over : (m n : SpanMap) → IsImage places old m → IsImage places old n → (b : Position) (t : Size) → get m b ≡ Some t → get n b ≡ Some t
       over m n i j b t h = let c = i.comes b t h in j.goes c.0 b c.1 t c.2 c.3 c.4
@@ -215,8 +216,12 @@ module _ (places : Places) where
           let here = sorted-find (rectangles m) e.0 (rectangles_sorted m) e.1 in
           (e.0.first, e.0.size, get-rectangles m e.0.first ∙ here, carries-true e.0 (rectangle b t) (room.1, room.2) e.2, room.0)
 
+      -- so each is of more than one cell
+      got-image : (b : Position) → get (image places m) b ≡ find_at b (images places (rectangles m))
+      got-image b = get-from_rectangles (images places (rectangles m)) b (sizes_of (images places (rectangles m)) (λ f h. let c = of_member f.first f.size h in carries_more (rectangle c.0 c.1) f c.4 c.3 (span_at m c.0 c.1 c.2)))
+
       comes : (b : Position) (t : Size) → get (image places m) b ≡ Some t → (a : Position) × (s : Size) × (get m a ≡ Some s) × Carries places (rectangle a s) (rectangle b t) × HasArea (rectangle b t)
-      comes b t h = of_member b t (find-member (images places (rectangles m)) b t (sym (get-from_entries positions_total (pairs (images places (rectangles m))) b) ∙ h))
+      comes b t h = of_member b t (find-member (images places (rectangles m)) b t (sym (got-image b) ∙ h))
 
       goes : (a b : Position) (s t : Size) → get m a ≡ Some s → Carries places (rectangle a s) (rectangle b t) → HasArea (rectangle b t) → get (image places m) b ≡ Some t
       goes a b s t has c full =
@@ -226,7 +231,7 @@ module _ (places : Places) where
           let entry = find-member (rectangles m) a s (sym (get-rectangles m a) ∙ has) in
           let member = filter-from test (rectangle b t) (rectangles_inside places.rows places.columns) inside (any-from (λ (e : Rectangle). carries places e (rectangle b t)) (rectangle a s) (rectangles m) entry (carries-from (rectangle a s) (rectangle b t) c)) in
           let found = member-find (images places (rectangles m)) (rectangle b t) member in
-          let got = get-from_entries positions_total (pairs (images places (rectangles m))) b ∙ found.1 in
+          let got = got-image b ∙ found.1 in
           let d = comes b found.0 got in
           let q = c.from b (first_in (rectangle b t) full) in
           let r = d.3.from b (first_in (rectangle b found.0) d.4) in

@@ -1,23 +1,22 @@
 -- Merged cells, carried along when cells move.
 use Rattle.std.specs.Prelude.{◌≡◌, ◌<◌, ◌≤◌, ℕ, ◌+◌, ◌-◌, ◌&&◌, if◌then◌else◌, Bool, false, List, Option, None, Some, map, not}
-use Rattle.std.specs.FinMap as finite
 use Rattle.std.specs.List.{filter, flat_map, list_all, list_any}
 use Rattle.tabled_grid.specs.Entity.{block, same_place}
 use Rattle.tabled_grid.specs.Fitting.{keep_fitting}
 use Rattle.tabled_grid.specs.Midway.{In}
 use Rattle.tabled_grid.specs.Places.{Places}
 use Rattle.tabled_grid.specs.Rectangles.{holds}
-use Rattle.tabled_grid.specs.Spans.{SpanMap, pairs, rectangle, rectangles, sized}
+use Rattle.tabled_grid.specs.Spans.{SpanMap, from_rectangles, get, rectangle, rectangles, sized}
 use Rattle.tabled_grid.specs.declared.config.position.Position.{Position}
 use Rattle.tabled_grid.specs.declared.config.rectangle.Rectangle.{Rectangle}
 use Rattle.tabled_grid.specs.declared.config.size.Size.{Size}
 
 -- a rectangle of a map lies inside a table, and shares no cell with another one
 pub record IsFree (m : SpanMap) (rows columns : ℕ) (a : Position) (s : Size) : Type 0 where
-  pub here : finite.get m a ≡ Some s
+  pub here : get m a ≡ Some s
   pub bottom : a.row + s.height ≤ rows
   pub right : a.col + s.width ≤ columns
-  pub alone : (b : Position) (t : Size) (p : Position) → finite.get m b ≡ Some t → In (rectangle a s) p → In (rectangle b t) p → a ≡ b
+  pub alone : (b : Position) (t : Size) (p : Position) → get m b ≡ Some t → In (rectangle a s) p → In (rectangle b t) p → a ≡ b
 
 -- the cells of a rectangle, row by row
 abbrev pub cells_in : Rectangle → List Position
@@ -48,7 +47,7 @@ images places es = filter (λ (f : Rectangle). list_any (λ (e : Rectangle). car
 
 -- the map of these
 abbrev pub image : Places → SpanMap → SpanMap
-image places m = finite.from_entries (pairs (images places (rectangles m)))
+image places m = from_rectangles (images places (rectangles m))
 
 -- what becomes of merged cells when the cells of a table of r rows and c columns move
 abbrev pub carried : Places → ℕ → ℕ → SpanMap → SpanMap
@@ -73,8 +72,8 @@ pub record HasArea (f : Rectangle) : Type 0 where
 
 -- the new map has just the rectangles that carry one of the old map
 pub record IsImage (places : Places) (old new : SpanMap) : Type 0 where
-  pub comes : (b : Position) (t : Size) → finite.get new b ≡ Some t → (a : Position) × (s : Size) × (finite.get old a ≡ Some s) × Carries places (rectangle a s) (rectangle b t) × HasArea (rectangle b t)
-  pub goes : (a b : Position) (s t : Size) → finite.get old a ≡ Some s → Carries places (rectangle a s) (rectangle b t) → HasArea (rectangle b t) → finite.get new b ≡ Some t
+  pub comes : (b : Position) (t : Size) → get new b ≡ Some t → (a : Position) × (s : Size) × (get old a ≡ Some s) × Carries places (rectangle a s) (rectangle b t) × HasArea (rectangle b t)
+  pub goes : (a b : Position) (s t : Size) → get old a ≡ Some s → Carries places (rectangle a s) (rectangle b t) → HasArea (rectangle b t) → get new b ≡ Some t
 
 -- what goes from a place comes back to it
 pub record LeadsBack (there back : Places) : Type 0 where
@@ -83,7 +82,7 @@ pub record LeadsBack (there back : Places) : Type 0 where
 
 -- each rectangle of a map is carried to one
 pub record CarriesAll (places : Places) (m : SpanMap) : Type 0 where
-  pub each : (a : Position) (s : Size) → finite.get m a ≡ Some s → (f : Rectangle) × Carries places (rectangle a s) f × HasArea f
+  pub each : (a : Position) (s : Size) → get m a ≡ Some s → (f : Rectangle) × Carries places (rectangle a s) f × HasArea f
 
 -- the cells of a table of r rows and c columns keep their places, and no other cell comes to one
 pub record KeepsPlaces (places : Places) (rows columns : ℕ) : Type 0 where

@@ -2,7 +2,7 @@
 
 ghost use Rattle.std.specs.Prelude.{◌≡◌, IfOk, IsOk};
 ghost use Rattle.tabled_grid.specs.Fitting.{Fits, keep_fitting};
-ghost use Rattle.tabled_grid.specs.Spans.{AreAnchors, AreSpanSizes, map_of};
+ghost use Rattle.tabled_grid.specs.Spans.{AreAnchors, map_of};
 ghost use Rattle.tabled_carry.specs.Found.{IsFoundOf};
 ghost use Rattle.tabled_carry.specs.Images.{carried, image};
 
@@ -46,7 +46,6 @@ impl FittingSpans {
         ensures found { IfOk result (IsFoundOf cfg.now) }
         ensures rows { IfOk result (λ found. found.rows ≡ rows) }
         ensures columns { IfOk result (λ found. found.columns ≡ columns) }
-        ensures sizes { AreSpanSizes cfg.now }
         ensures promised { Fits cfg.now rows columns → IsOk result }
     {
         let fitting = if cfg.fits(rows, columns) {
@@ -77,10 +76,7 @@ impl FittingSpans {
     pub fn carry_along<M: MovesRectangles>(self, alloc: Global, moves: &M, cfg: &mut SpannedConfig)
         requires { IsFoundOf cfg.old self }
         ensures carried { cfg.new ≡ carried (M.places moves.now) self.rows self.columns cfg.old }
-        ensures sizes { AreSpanSizes cfg.new }
     {
-        // The list tells that the sizes are right.
-        let _ = cfg.anchors();
         let FittingSpans {
             rows,
             columns,
@@ -104,7 +100,6 @@ fn carried_fitting<M: MovesRectangles>(
 ) -> SpannedConfig
     requires { Fits cfg rows columns }
     ensures image { result ≡ image (M.places moves.now) cfg }
-    ensures sizes { AreSpanSizes result }
 {
     let mut anchors = cfg.into_anchors();
     carry(moves, &mut anchors, rows, columns);

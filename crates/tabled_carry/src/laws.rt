@@ -1,12 +1,11 @@
 //! Laws of merged cells that are carried along. Each is the contract of a function that does nothing.
 
 ghost use Rattle.std.specs.Prelude.{◌≡◌, ◌↔◌, ℕ, List, Some, false};
-ghost use Rattle.std.specs.FinMap as map;
 ghost use Rattle.tabled_grid.specs.Fitting.{Fits, keep_fitting};
 ghost use Rattle.tabled_grid.specs.Grid.{Grid};
 ghost use Rattle.tabled_grid.specs.Places.{Places};
 ghost use Rattle.tabled_grid.specs.Shifts.{is_crossed};
-ghost use Rattle.tabled_grid.specs.Spans.{AreSpanSizes, SpanMap};
+ghost use Rattle.tabled_grid.specs.Spans.{SpanMap, get};
 ghost use Rattle.tabled_grid.specs.declared.config.position.Position.{Position};
 ghost use Rattle.tabled_grid.specs.declared.records.axis.Axis.{Axis};
 ghost use Rattle.tabled_grid.specs.declared.records.axis.Axis.TheVariants.{Columns, Rows};
@@ -16,13 +15,13 @@ ghost use Rattle.tabled_carry.specs.PutIn.{FitsGrid, PutsInColumn, PutsInRow};
 
 /// Those rectangles fit a table that lie inside it and share no cell with another one.
 pub fn fitting_rectangles_are_the_free_ones()
-    ensures { (m : SpanMap) (rows columns : ℕ) (a : Position) (s : Size) → AreSpanSizes m → (map.get (keep_fitting rows columns m) a ≡ Some s) ↔ IsFree m rows columns a s }
+    ensures { (m : SpanMap) (rows columns : ℕ) (a : Position) (s : Size) → (get (keep_fitting rows columns m) a ≡ Some s) ↔ IsFree m rows columns a s }
 {}
 
 /// The rectangles that are carried along are just those whose cells are the new places of the cells of one
 /// that fits, all of which have a new place.
 pub fn carried_rectangles_are_the_images()
-    ensures { (places : Places) (rows columns : ℕ) (m : SpanMap) → AreSpanSizes m → IsImage places (keep_fitting rows columns m) (carried places rows columns m) }
+    ensures { (places : Places) (rows columns : ℕ) (m : SpanMap) → IsImage places (keep_fitting rows columns m) (carried places rows columns m) }
 {}
 
 /// There is one such map alone.
@@ -32,7 +31,7 @@ pub fn there_is_one_image()
 
 /// What is carried along lies inside the new table and apart, whatever the map was before.
 pub fn carried_rectangles_fit()
-    ensures { (places : Places) (rows columns : ℕ) (m : SpanMap) → AreSpanSizes m → Fits (carried places rows columns m) places.rows places.columns }
+    ensures { (places : Places) (rows columns : ℕ) (m : SpanMap) → Fits (carried places rows columns m) places.rows places.columns }
 {}
 
 /// Merged cells that fit and are all carried along are as they were, once they are carried back.
@@ -42,7 +41,7 @@ pub fn carried_there_and_back_is_as_it_was()
 
 /// Where the cells of a table keep their places, those merged cells stay that fit it.
 pub fn merged_cells_stay_with_their_cells()
-    ensures { (places : Places) (rows columns : ℕ) (m : SpanMap) → AreSpanSizes m → KeepsPlaces places rows columns → carried places rows columns m ≡ keep_fitting rows columns m }
+    ensures { (places : Places) (rows columns : ℕ) (m : SpanMap) → KeepsPlaces places rows columns → carried places rows columns m ≡ keep_fitting rows columns m }
 {}
 
 /// Merged cells that fit do so once a row, or a column, is put in that none of them crosses. None crosses

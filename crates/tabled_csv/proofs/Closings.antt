@@ -106,8 +106,8 @@ undoubled false (b ∷ bytes) = b ∷ undoubled (b == 34) bytes
 
 pub undoubled-doubled : (text : List ℕ) → undoubled false (doubled text) ≡ text
 undoubled-doubled [] = refl
-undoubled-doubled (b ∷ bs) = go (b == 34) refl (undoubled-doubled bs)
+undoubled-doubled (b ∷ bs) = of-first (b == 34) refl (undoubled-doubled bs)
   where
-    go : (c : Bool) → (b == 34) ≡ c → undoubled false (doubled bs) ≡ bs → undoubled false (cond c (34 ∷ 34 ∷ doubled bs) (b ∷ doubled bs)) ≡ b ∷ bs
-    go true e h = ap (λ (l : List ℕ). 34 ∷ l) h ∙ ap (λ (x : ℕ). x ∷ bs) (sym (eqb-true b 34 e))
-    go false e h = rw e (ap (λ (l : List ℕ). b ∷ l) h)
+    of-first : (c : Bool) → (b == 34) ≡ c → undoubled false (doubled bs) ≡ bs → undoubled false (cond c (34 ∷ 34 ∷ doubled bs) (b ∷ doubled bs)) ≡ b ∷ bs
+    of-first true e h = ap (λ (l : List ℕ). 34 ∷ l) h ∙ ap (λ (x : ℕ). x ∷ bs) (sym (eqb-true b 34 e))
+    of-first false e h = rw e (ap (λ (l : List ℕ). b ∷ l) h)

@@ -40,14 +40,14 @@ blank-field s bytes after (inr e) = record {
 
 -- nor does one begin with a quote
 pub quote-filled : (bytes rest : List ℕ) → bytes ≡ 34 ∷ rest → FilledAt bytes
-quote-filled bytes rest e = record { some = λ none. cc; filled = λ after b. go after b }
+quote-filled bytes rest e = record { some = λ none. cc; filled = no-blank }
   where
-    go : (after : List ℕ) → BlankAt bytes after → ⊥
-    go after (inl b) =
+    no-blank : (after : List ℕ) → BlankAt bytes after → ⊥
+    no-blank after (inl b) =
         let same : 34 ∷ rest ≡ 10 ∷ after = sym e ∙ b in
         let x : ◌≡◌ {A = ℕ} 34 10 = cc in
         omega arith
-    go after (inr b) =
+    no-blank after (inr b) =
         let same : 34 ∷ rest ≡ 13 ∷ 10 ∷ after = sym e ∙ b in
         let x : ◌≡◌ {A = ℕ} 34 13 = cc in
         omega arith

@@ -53,6 +53,6 @@ after-blank bytes after (inr e) valid = (utf8-return [] after (subst IsUtf8 e va
 
 -- between quotes
 pub inner-utf8 : (bytes behind : List ℕ) (closing : Closing) → bytes ≡ 34 ∷ behind → ClosedBy behind closing → IsUtf8 bytes → IsUtf8 (take closing.place behind)
-inner-utf8 bytes behind closing begins by valid =
+inner-utf8 bytes behind closing begins closed valid =
     let inside = (utf8-parts [] behind 34 (omega arith) (subst IsUtf8 begins valid)).1 in
-    subst IsUtf8 (sym by.inner) (utf8-parts (doubled by.text) (drop (closing.place + 1) behind) 34 (omega arith) (subst IsUtf8 by.closes.parts inside)).0
+    subst IsUtf8 (sym closed.inner) (utf8-parts (doubled closed.text) (drop (closing.place + 1) behind) 34 (omega arith) (subst IsUtf8 closed.closes.parts inside)).0

@@ -1,5 +1,5 @@
 -- What is written, part by part.
-use Rattle.tabled_csv.proofs.Common.{AllByRecursion, AreTexts, Err, Ok, OnErr, OnOk, Result, ◌≡◌, ◌<◌, ◌≤◌, ◌+◌, ◌-◌, ◌&&◌, ◌||◌, ◌==◌, ◌++◌, ◌∷◌, ◌∙◌, [], ℕ, zero, suc, List, Bool, false, true, refl, sym, ap, subst, arith, append-nil, append_assoc, begins_with_mark, csv_of, doubled, drop, field_of, get_or, holds_special, is_none, length, length-drop, lines_of, ne_eqb, others_of, quoted, record_of, slice_get, Some, take, take_all, take_more, take_rest}
+use Rattle.tabled_csv.proofs.Common.{AllByRecursion, AreTexts, Err, Ok, OnErr, OnOk, Result, ◌≡◌, ◌<◌, ◌≤◌, ◌+◌, ◌-◌, ◌&&◌, ◌||◌, ◌==◌, ◌++◌, ◌∷◌, ◌∙◌, [], ℕ, zero, suc, List, Bool, false, true, refl, sym, ap, subst, arith, append-nil, append_assoc, begins_with_mark, csv_of, doubled, drop, field_of, get_or, holds_special, is_none, length, length-drop, lines_of, ne_eqb, others_of, quoted, record_of, same_Some, slice_get, Some, take, take_all, take_more, take_rest}
 
 -- ---- between quotes
 
@@ -15,10 +15,7 @@ whole-quoted text w i end quiet =
 
 pub taken : {A : Type 0} (xs : List A) (k : ℕ) (x : A) → slice_get xs k ≡ Some x → take (k + 1) xs ≡ take k xs ++ (x ∷ [])
 taken [] k x e = cc
-taken (y ∷ ys) zero x e = ap (λ z. z ∷ []) (by e)
-  where
-    by : Some y ≡ Some x → y ≡ x
-    by e = cc
+taken (y ∷ ys) zero x e = ap (λ z. z ∷ []) (same_Some y x e)
 taken (y ∷ ys) (suc k) x e =
     let next : suc k + 1 ≡ suc (k + 1) = omega arith in
     rw next (ap (λ l. y ∷ l) (taken ys k x e))
@@ -55,10 +52,7 @@ lone text (next ∷ others) = ne_eqb (length (text ∷ next ∷ others)) 1 (λ e
 pub record-is : (s : ℕ) (f q : Bool) (row : List (List ℕ)) (width : ℕ) (text : List ℕ) → slice_get row 0 ≡ Some text → width ≡ length row
     → q ≡ holds_special s text || (((width == 1) && is_none text) || (f && begins_with_mark text)) → (field_of q text ++ others_of s (drop 1 row)) ++ (10 ∷ []) ≡ record_of s f row
 record-is s f q [] width text e w is = cc
-record-is s f q (first ∷ others) width text e w is = rw (is, w, lone first others, by e) refl
-  where
-    by : Some first ≡ Some text → first ≡ text
-    by e = cc
+record-is s f q (first ∷ others) width text e w is = rw (is, w, lone first others, same_Some first text e) refl
 
 pub no-fields : (s : ℕ) (f : Bool) (row : List (List ℕ)) → length row ≡ 0 → 10 ∷ [] ≡ record_of s f row
 no-fields s f [] is = refl
@@ -103,10 +97,7 @@ all-more P xs ys x is all this = subst (AllByRecursion P) (sym is) (all-append P
 
 pub row-texts : (row : List (List ℕ)) (text : List ℕ) → slice_get row 0 ≡ Some text → AreTexts (text ∷ []) → AreTexts (drop 1 row) → AreTexts row
 row-texts [] text e first others = tt
-row-texts (x ∷ row) text e first others = ((subst (λ (t : List ℕ). AreTexts (t ∷ [])) (by e) first).0, others)
-  where
-    by : Some x ≡ Some text → text ≡ x
-    by e = cc
+row-texts (x ∷ row) text e first others = ((subst (λ (t : List ℕ). AreTexts (t ∷ [])) (sym (same_Some x text e)) first).0, others)
 
 pub no-texts : (row : List (List ℕ)) → length row ≡ 0 → AreTexts row
 no-texts [] is = tt

@@ -45,6 +45,10 @@ lines_of separator is_first (row ∷ rows) = record_of separator is_first row ++
 abbrev pub csv_of : ℕ → List (List (List ℕ)) → List ℕ
 csv_of separator rows = lines_of separator true rows
 
+-- what is written of rows means these rows
+abbrev pub WrittenMeans : ℕ → List (List (List ℕ)) → Type 0
+WrittenMeans separator rows = IsCsv separator (csv_of separator rows) rows
+
 -- each is UTF-8
 abbrev pub AreTexts : List (List ℕ) → Type 0
 AreTexts row = AllByRecursion IsUtf8 row
@@ -59,5 +63,5 @@ AreRows rows = HaveFields rows × AllByRecursion AreTexts rows
 
 -- what is written of rows means these rows, and no others
 pub record IsReadBack (separator : ℕ) (rows : List (List (List ℕ))) : Type 0 where
-  pub means : IsCsv separator (csv_of separator rows) rows
+  pub means : WrittenMeans separator rows
   pub only : (others : List (List (List ℕ))) → IsCsv separator (csv_of separator rows) others → others ≡ rows

@@ -60,7 +60,8 @@ pub(crate) fn read_field<'a>(
     Ok((unsafe { str::from_utf8_unchecked(field) }, stop, after))
 }
 
-/// The same, of bytes that begin with a quote.
+/// The field between quotes at the front of bytes, what is behind it, and the bytes after this. Behind the quote that
+/// opens it are the bytes `behind`.
 #[inline(never)]
 fn quoted_field<'a>(
     separator: u8,

@@ -29,7 +29,7 @@ pub(crate) fn first_outside(separator: u8, bytes: &[u8]) -> Option<usize>
     }
 }
 
-/// The same in a block.
+/// The first place of a separator or a line feed in a block, whose bytes are tested all at once.
 #[inline(always)]
 fn outside_in_block(separator: u8, block: &[u8]) -> Option<usize>
     requires { length block.now ≡ 16 }
@@ -50,7 +50,7 @@ fn outside_marks(separator: u8, bytes: u8x16) -> u64
     (bytes.simd_eq(u8x16::splat(separator)) | bytes.simd_eq(u8x16::splat(b'\n'))).to_bitmask()
 }
 
-/// The same, byte by byte.
+/// The first place of a separator or a line feed, found byte by byte.
 #[inline(always)]
 fn outside_among(separator: u8, bytes: &[u8]) -> Option<usize>
     ensures { MatchOption result (list_any (is_outside separator) bytes.now ≡ false) (IsFirstOutside separator bytes.now) }

@@ -1,8 +1,7 @@
 //! Rows of texts, in vectors or in a store.
 
-ghost use Rattle.std.specs.Prelude.{◌≡◌, ◌<◌, ℕ, List, [], Some, length, slice_get, slice_index_or};
-ghost use Rattle.tabled_csv.specs.Texts.{rows_by};
-ghost use Rattle.tabled_grid.specs.Grid.{map_grid};
+ghost use Rattle.std.specs.Prelude.{◌≡◌, ◌<◌, ℕ, List, Some, length, slice_get};
+ghost use Rattle.tabled_csv.specs.Texts.{cells_by, row_at, rows_by};
 
 use tabled_grid::config::Position;
 use tabled_grid::records::{CellText, ExactRecords, PeekableRecords, Records};
@@ -24,14 +23,14 @@ pub(crate) trait Rows {
     fn width(&self, i: usize) -> usize
         requires well { Self.is_well self.now }
         requires row { i < length (Self.texts self.now) }
-        ensures { result ≡ length (slice_index_or (Self.texts self.now) i []) };
+        ensures { result ≡ length (row_at (Self.texts self.now) i) };
 
     /// The text at a place.
     fn text(&self, i: usize, j: usize) -> &str
         requires well { Self.is_well self.now }
         requires row { i < length (Self.texts self.now) }
-        requires column { j < length (slice_index_or (Self.texts self.now) i []) }
-        ensures { slice_get (slice_index_or (Self.texts self.now) i []) j ≡ Some result.now };
+        requires column { j < length (row_at (Self.texts self.now) i) }
+        ensures { slice_get (row_at (Self.texts self.now) i) j ≡ Some result.now };
 }
 
 impl<'a, T: CellText> Rows for &'a [Vec<T>] {
@@ -63,7 +62,7 @@ where
     R: Records + ExactRecords + PeekableRecords,
     R::Cell: CellText,
 {
-    ghost texts = { λ stored. (map_grid R.Cell.text_of (R.grid stored.records.now)).cells };
+    ghost texts = { λ stored. cells_by R.Cell.text_of (R.grid stored.records.now) };
 
     ghost is_well = { λ stored. R.is_well_formed stored.records.now };
 

@@ -1,13 +1,12 @@
 //! CSV, written.
 
-ghost use Rattle.std.specs.Prelude.{◌≡◌, ◌<◌, ◌==◌, [], Err, OnOk, drop, length, slice_index_or};
+ghost use Rattle.std.specs.Prelude.{◌≡◌, ◌<◌, ◌==◌, [], Err, OnOk, drop, length};
 ghost use Rattle.std.specs.Io.KnownBytes.{Appends};
 ghost use Rattle.std.specs.List.{AllByRecursion};
-ghost use Rattle.tabled_csv.specs.Grammar.{IsCsv, quoted};
-ghost use Rattle.tabled_csv.specs.Texts.{rows_by};
-ghost use Rattle.tabled_csv.specs.Writing.{AreTexts, HaveFields, csv_of, field_of, others_of, record_of};
+ghost use Rattle.tabled_csv.specs.Grammar.{quoted};
+ghost use Rattle.tabled_csv.specs.Texts.{cells_by, row_at, rows_by};
+ghost use Rattle.tabled_csv.specs.Writing.{AreTexts, HaveFields, WrittenMeans, csv_of, field_of, others_of, record_of};
 ghost use Rattle.tabled_csv.specs.declared.fault.WriteError.TheVariants.{OutOfMemory};
-ghost use Rattle.tabled_grid.specs.Grid.{map_grid};
 ghost use Rattle.tabled_held.specs.Sent.{GrowsBy};
 
 use crate::fault::WriteError;
@@ -59,8 +58,8 @@ fn write_others<W: Write, R: Rows>(
 )
     requires well { R.is_well rows.now }
     requires row { i < length (R.texts rows.now) }
-    ensures sends { GrowsBy (W.contents writer.old) held.old (W.contents writer.new) held.new (others_of separator (drop 1 (slice_index_or (R.texts rows.now) i []))) }
-    ensures texts { AreTexts (drop 1 (slice_index_or (R.texts rows.now) i [])) }
+    ensures sends { GrowsBy (W.contents writer.old) held.old (W.contents writer.new) held.new (others_of separator (drop 1 (row_at (R.texts rows.now) i))) }
+    ensures texts { AreTexts (drop 1 (row_at (R.texts rows.now) i)) }
 {
     for j in 1..rows.width(i) {
         let text = rows.text(i, j).as_bytes();
@@ -79,8 +78,8 @@ fn write_record<W: Write, R: Rows>(
 )
     requires well { R.is_well rows.now }
     requires row { i < length (R.texts rows.now) }
-    ensures sends { GrowsBy (W.contents writer.old) held.old (W.contents writer.new) held.new (record_of separator (i == 0) (slice_index_or (R.texts rows.now) i [])) }
-    ensures texts { AreTexts (slice_index_or (R.texts rows.now) i []) }
+    ensures sends { GrowsBy (W.contents writer.old) held.old (W.contents writer.new) held.new (record_of separator (i == 0) (row_at (R.texts rows.now) i)) }
+    ensures texts { AreTexts (row_at (R.texts rows.now) i) }
 {
     let width = rows.width(i);
     if width == 0 {
@@ -124,7 +123,7 @@ fn write_texts<W: Write, R: Rows>(
 ) -> Result<(), WriteError>
     requires well { R.is_well rows.now }
     ensures written { OnOk result (Appends (W.contents writer.old) (W.contents writer.new) (csv_of separator (R.texts rows.now))) }
-    ensures means { OnOk result (HaveFields (R.texts rows.now) → IsCsv separator (csv_of separator (R.texts rows.now)) (R.texts rows.now)) }
+    ensures means { OnOk result (HaveFields (R.texts rows.now) → WrittenMeans separator (R.texts rows.now)) }
     ensures memory { result ≡ Err OutOfMemory → W.contents writer.new ≡ W.contents writer.old }
 {
     let mut held = Held::new(alloc)?;
@@ -148,7 +147,7 @@ pub fn write<W: Write, T: CellText>(
     ensures written { OnOk result (Appends (W.contents writer.old) (W.contents writer.new) (csv_of separator (rows_by T.text_of rows.now))) }
 
     // What is written means these rows, where each has a field.
-    ensures means { OnOk result (HaveFields (rows_by T.text_of rows.now) → IsCsv separator (csv_of separator (rows_by T.text_of rows.now)) (rows_by T.text_of rows.now)) }
+    ensures means { OnOk result (HaveFields (rows_by T.text_of rows.now) → WrittenMeans separator (rows_by T.text_of rows.now)) }
     ensures memory { result ≡ Err OutOfMemory → W.contents writer.new ≡ W.contents writer.old }
 {
     write_texts(alloc, writer, separator, &rows)
@@ -169,10 +168,10 @@ where
     R: Records + ExactRecords + PeekableRecords,
     R::Cell: CellText,
     requires well { R.is_well_formed records.now }
-    ensures written { OnOk result (Appends (W.contents writer.old) (W.contents writer.new) (csv_of separator ((map_grid R.Cell.text_of (R.grid records.now)).cells))) }
+    ensures written { OnOk result (Appends (W.contents writer.old) (W.contents writer.new) (csv_of separator (cells_by R.Cell.text_of (R.grid records.now)))) }
 
     // What is written means the table's rows, where it has a column.
-    ensures means { OnOk result (0 < (R.grid records.now).columns → IsCsv separator (csv_of separator ((map_grid R.Cell.text_of (R.grid records.now)).cells)) ((map_grid R.Cell.text_of (R.grid records.now)).cells)) }
+    ensures means { OnOk result (0 < (R.grid records.now).columns → WrittenMeans separator (cells_by R.Cell.text_of (R.grid records.now))) }
     ensures memory { result ≡ Err OutOfMemory → W.contents writer.new ≡ W.contents writer.old }
 {
     write_texts(alloc, writer, separator, &Stored { records })

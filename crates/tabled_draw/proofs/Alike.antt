@@ -1,5 +1,5 @@
 -- Tables whose texts differ only where merged cells hide them have one picture.
-use Rattle.tabled_draw.proofs.Common.{Alignment, AreSpanSizes, Columns, Grid, In, List, Member, None, Option, Position, Rectangle, Rows, Some, SpanMap, Style, [], across, aligned, alignment_in, ap, ap₂, are_none, arith, arms, asks, border, border_line, by_number, cases_Bool, column_between, cond, cond-false, count_along, differ, each, edge_between, encode_utf8_all, rectangles, eqb, false, false_from_ne_true, false≢true, fitting, fold, get_or, grown_for, grown_sizes, heights, holds, holds-true, in_order, inl, inr, is_hidden_in, largest, line_of, line_size, lines_around, lines_in, lines_of_row, lines_shown, mark, not, own, own_sizes, owner_in, picture, picture_bytes, picture_line, place, place_in, refl, replicate, room, same_place, same_place-self, same_place-true, shows, shows_in, start_of, subst, sym, text_of_cell, top, true, widths, with_newlines, ℕ, ◌&&◌, ◌++◌, ◌+◌, ◌-◌, ◌<◌, ◌==◌, ◌||◌, ◌∙◌, ◌∷◌, ◌≡◌, ◌⊎◌}
+use Rattle.tabled_draw.proofs.Common.{Alignment, Columns, Grid, In, List, Member, None, Option, Position, Rectangle, Rows, Some, SpanMap, Style, [], across, aligned, alignment_in, ap, ap₂, are_none, arith, arms, asks, border, border_line, by_number, cases_Bool, column_between, cond, cond-false, count_along, differ, each, edge_between, encode_utf8_all, rectangles, eqb, false, false_from_ne_true, false≢true, fitting, fold, get_or, grown_for, grown_sizes, heights, holds, holds-true, in_order, inl, inr, is_hidden_in, largest, line_of, line_size, lines_around, lines_in, lines_of_row, lines_shown, mark, not, own, own_sizes, owner_in, picture, picture_bytes, picture_line, place, place_in, refl, replicate, room, same_place, same_place-self, same_place-true, shows, shows_in, start_of, subst, sym, text_of_cell, top, true, widths, with_newlines, ℕ, ◌&&◌, ◌++◌, ◌+◌, ◌-◌, ◌<◌, ◌==◌, ◌||◌, ◌∙◌, ◌∷◌, ◌≡◌, ◌⊎◌}
 use Rattle.std.proofs.lemmas.Bool.{and_parts}
 use Rattle.tabled_draw.proofs.Each.{each-same}
 use Rattle.tabled_draw.proofs.Fitting.{kept-well}
@@ -140,8 +140,8 @@ module _ (style : Style) (aligns : List Alignment) (g h : Grid (List ℕ)) (es :
       ap (cond ((g.rows == 0) || (g.columns == 0)) []) (ap₂ (λ x y. x ++ y) (each-same (lines_of_row style aligns g es) (lines_of_row style aligns h es) g.rows (λ i less. row-alike i)) (border_line-alike g.rows))
       ∙ ap₂ (λ r c. cond ((r == 0) || (c == 0)) [] (each r (lines_of_row style aligns h es) ++ border_line style aligns h es r)) alike.rows alike.columns
 
-pub drawn-alike : (style : Style) (aligns : List Alignment) (g h : Grid (List ℕ)) (m : SpanMap) → AreSpanSizes m → AreSeenAlike g h (fitting g.rows g.columns (rectangles m)) → drawn_with style aligns g m ≡ drawn_with style aligns h m
+pub drawn-alike : (style : Style) (aligns : List Alignment) (g h : Grid (List ℕ)) (m : SpanMap) → AreSeenAlike g h (fitting g.rows g.columns (rectangles m)) → drawn_with style aligns g m ≡ drawn_with style aligns h m
 unfolding drawn_with
-drawn-alike style aligns g h m sized alike =
-    ap (λ lines. encode_utf8_all (with_newlines lines)) (picture-alike style aligns g h (fitting g.rows g.columns (rectangles m)) (kept-well m g.rows g.columns sized) alike)
+drawn-alike style aligns g h m alike =
+    ap (λ lines. encode_utf8_all (with_newlines lines)) (picture-alike style aligns g h (fitting g.rows g.columns (rectangles m)) (kept-well m g.rows g.columns) alike)
     ∙ ap₂ (λ r c. picture_bytes style aligns h (fitting r c (rectangles m))) alike.rows alike.columns

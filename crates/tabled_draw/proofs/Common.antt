@@ -1,7 +1,7 @@
 -- The names that most proofs cite, passed on from one place. Declares nothing.
 pub use Rattle.std.proofs.Common.{◌%◌, ◌&&◌, ◌*◌, ◌/◌, ◌==◌, ◌||◌, Bor, IsUtf8, MatchOption, T, add-zero, add_assoc, append-nil, append_assoc, drop_of_length-le, encode_utf8, encode_utf8_all, eq-eqb, eqb-true, fold, length-append, length-set, lit<, nat_le, nat_lt, ne_eqb, not, take_all, unwrap_or}
 pub use Rattle.std.proofs.Math.Bool.{and-false}
-pub use Rattle.std.proofs.lemmas.Bool.{eqb-false}
+pub use Rattle.std.proofs.lemmas.Bool.{cond_both, eqb-false}
 pub use Rattle.std.proofs.lemmas.Bool.Decides.{nat_tests}
 pub use Rattle.std.proofs.lemmas.List.{ext_get_or, get_or-append-add, get_or-map, get_or-replicate, get_or_past, get_or_push}
 pub use Rattle.std.proofs.lemmas.List.Splits.{slice_split_first, slice_split_none}
@@ -19,21 +19,21 @@ pub use Rattle.tabled_draw.specs.Measured.{Measured, raised}
 pub use Rattle.tabled_draw.specs.Overall.{AreEquallyWide, AreNoControls, AreNoLargerThanAsked, HoldsOfPictures, drawn_lines, lacking, most_asked, takes}
 pub use Rattle.tabled_draw.specs.OwnerRows.{BeginHere, IsOwnerRow, begins_at, chosen, count_before, is_before, is_held_by}
 pub use Rattle.tabled_draw.specs.Owners.{owner_in}
+pub use Rattle.tabled_draw.specs.Pens.{Draws, IsDone, Sends}
 pub use Rattle.tabled_draw.specs.Picture.{border_line, column_between, edge_between, left, lines_of_row, picture, picture_bytes, picture_line, shows, shows_in, top, with_newlines}
 pub use Rattle.tabled_draw.specs.Rests.{IsCutAt, border_of_rests, bytes_in, line_of_rests}
-pub use Rattle.tabled_draw.specs.Sent.{Draws}
 pub use Rattle.tabled_draw.specs.Sizes.{asks, grown_for, grown_sizes, heights, in_order, own, own_sizes, pad, room, share, start_of, text_of_cell, widths}
 pub use Rattle.tabled_draw.specs.Standing.{IsSeen, ShowsTexts, StandBetween, StandsAt, StandsFramed, StandsIn, indent_of, inner_height, inner_left, inner_line, inner_top, inner_width, is_amid, is_joined_above, is_joined_around, is_joined_beside, meeting, text_line}
 pub use Rattle.tabled_draw.specs.Texts.{lines_shown, shown_character, shown_line, text_width, widest}
 pub use Rattle.tabled_draw.specs.declared.alignment.Alignment.{Alignment}
+pub use Rattle.tabled_draw.specs.declared.pen.Pen.{Pen}
 pub use Rattle.tabled_draw.specs.declared.style.Style.{Style}
 pub use Rattle.tabled_draw.specs.declared.style.TheConstants.Style.{ASCII}
-pub use Rattle.tabled_grid.proofs.Common.{[], ◌++◌, ◌+◌, ◌-◌, ◌<◌, ◌∙◌, ◌∷◌, ◌≡◌, ◌≢◌, ◌≤◌, ◌⊎◌, AllByRecursion, AreSorted, AreSpanSizes, Bool, Fits, Grid, In, IsInside, List, None, Option, Some, SpanMap, across, add-one, all-append, and_from, ap, ap₂, arith, cases_Bool, cases_eq, cases_lt, cell_at, common_steps, cond, cond-false, cond-true, count_along, eqb, false, false_from_ne_true, false≢true, find, fitting, get, get_or, get_or-set_other, get_or-set_same, get_or_append_left, get_or_default, holds, inl, inr, is_hidden_in, keep_fitting, le-leb, length, length-map, length-replicate, line_of, lines_in, list_any, lt-ltb, ltb-false, map, map-set, map_grid, map_of, max, nil_from_length, none-some, pairs, place, place_in, position_cmp, rectangle, rectangles, refl, replicate, replicate-append-replicate, same_Some, same_place, set, size_at, sized, subst, suc, sym, take, take_more, true, zero, ℕ}
+pub use Rattle.tabled_grid.proofs.Common.{[], ◌++◌, ◌+◌, ◌-◌, ◌<◌, ◌∙◌, ◌∷◌, ◌≡◌, ◌≢◌, ◌≤◌, ◌⊎◌, AllByRecursion, AreSorted, Bool, Fits, Grid, In, IsInside, List, None, Option, Some, SpanMap, across, add-one, all-append, and_from, ap, ap₂, arith, cases_Bool, cases_eq, cases_lt, cell_at, common_steps, cond, cond-false, cond-true, count_along, eqb, false, false_from_ne_true, false≢true, find, fitting, get, get_or, get_or-set_other, get_or-set_same, get_or_append_left, get_or_default, holds, inl, inr, is_hidden_in, keep_fitting, le-leb, length, length-map, length-replicate, line_of, lines_in, list_any, lt-ltb, ltb-false, map, map-set, map_grid, map_of, max, nil_from_length, none-some, pairs, place, place_in, position_cmp, rectangle, rectangles, refl, replicate, replicate-append-replicate, same_Some, same_place, set, size_at, sized, subst, suc, sym, take, take_more, true, zero, ℕ}
 pub use Rattle.tabled_grid.proofs.Members.{Member, any-from, find-member, sorted-find}
-pub use Rattle.tabled_grid.proofs.SortedEntries.{find_at, get-rectangles, rectangles-map_of, rectangles_sorted}
+pub use Rattle.tabled_grid.proofs.SortedEntries.{find_at, get-rectangles, rectangles-map_of, rectangles_anchors, rectangles_sorted, span_at}
 pub use Rattle.tabled_grid.proofs.SpanMaps.{at, equal, found_above, halves, holds-from, holds-true, same_place-apart, same_place-self, same_place-true, size_at-none, size_at-some}
 pub use Rattle.tabled_grid.specs.declared.config.position.Position.{Position}
 pub use Rattle.tabled_grid.specs.declared.config.rectangle.Rectangle.{Rectangle}
 pub use Rattle.tabled_grid.specs.declared.config.size.Size.{Size}
 pub use Rattle.tabled_grid.specs.declared.records.axis.Axis.TheVariants.{Columns, Rows}
-pub use Rattle.tabled_held.specs.Sent.{GrowsBy, Kept}

@@ -1,44 +1,43 @@
 -- Merged cells that fit a table, and those that are kept of any.
-use Rattle.tabled_draw.proofs.Common.{◌∙◌, ◌≡◌, Alignment, AreSpanSizes, Fits, Grid, HoldsOfPictures, List, Rectangle, SpanMap, Style, ap, ap₂, fitting, keep_fitting, picture_bytes, rectangles, rectangles-map_of, subst, sym, ℕ}
+use Rattle.tabled_draw.proofs.Common.{◌∙◌, ◌≡◌, Alignment, Fits, Grid, HoldsOfPictures, List, Rectangle, SpanMap, Style, ap, ap₂, fitting, keep_fitting, picture_bytes, rectangles, rectangles-map_of, rectangles_anchors, subst, sym, ℕ}
 use Rattle.tabled_draw.proofs.Owned.{LieWell, fits-well}
 use Rattle.tabled_draw.specs.Picture.{drawn_with}
-use Rattle.tabled_grid.proofs.Fitting.{anchors-fitting, anchors-of, keep_fitting-all, keep_fitting-fits}
-use Rattle.tabled_grid.proofs.SortedAnchors.{anchors-of}
+use Rattle.tabled_grid.proofs.Fitting.{anchors-fitting, keep_fitting-all, keep_fitting-fits}
 
 -- the merged cells that are kept are those that fit
-pub kept-rectangles : (m : SpanMap) (rows columns : ℕ) → AreSpanSizes m → rectangles (keep_fitting rows columns m) ≡ fitting rows columns (rectangles m)
-kept-rectangles m rows columns sizes = rectangles-map_of (fitting rows columns (rectangles m)) (anchors-fitting rows columns (rectangles m) (anchors-of m sizes)).sorted
+pub kept-rectangles : (m : SpanMap) (rows columns : ℕ) → rectangles (keep_fitting rows columns m) ≡ fitting rows columns (rectangles m)
+kept-rectangles m rows columns = rectangles-map_of (fitting rows columns (rectangles m)) (anchors-fitting rows columns (rectangles m) (rectangles_anchors m))
 
-pub kept-well : (m : SpanMap) (rows columns : ℕ) → AreSpanSizes m → LieWell rows columns (fitting rows columns (rectangles m))
-kept-well m rows columns sizes = subst (λ (es : List Rectangle). LieWell rows columns es) (kept-rectangles m rows columns sizes) (fits-well (keep_fitting rows columns m) rows columns (keep_fitting-fits rows columns m sizes))
+pub kept-well : (m : SpanMap) (rows columns : ℕ) → LieWell rows columns (fitting rows columns (rectangles m))
+kept-well m rows columns = subst (λ (es : List Rectangle). LieWell rows columns es) (kept-rectangles m rows columns) (fits-well (keep_fitting rows columns m) rows columns (keep_fitting-fits rows columns m))
 
 -- what holds where merged cells of a list lie well
 pub holds : (Says : Style → List Alignment → Grid (List ℕ) → List Rectangle → Type 0) → ((style : Style) (aligns : List Alignment) (g : Grid (List ℕ)) (es : List Rectangle) → LieWell g.rows g.columns es → Says style aligns g es) → HoldsOfPictures Says
 holds Says each = record {
   where_all_fit = λ style aligns g m fits. each style aligns g (rectangles m) (fits-well m g.rows g.columns fits);
-  of_drawn = λ style aligns g m sizes. each style aligns g (fitting g.rows g.columns (rectangles m)) (kept-well m g.rows g.columns sizes);
+  of_drawn = λ style aligns g m. each style aligns g (fitting g.rows g.columns (rectangles m)) (kept-well m g.rows g.columns);
 }
 
 -- ---- what is drawn
 
 fitting-all : (m : SpanMap) (rows columns : ℕ) → Fits m rows columns → fitting rows columns (rectangles m) ≡ rectangles m
-fitting-all m rows columns fits = sym (kept-rectangles m rows columns fits.sizes) ∙ ap rectangles (keep_fitting-all rows columns m fits)
+fitting-all m rows columns fits = sym (kept-rectangles m rows columns) ∙ ap rectangles (keep_fitting-all rows columns m fits)
 
 pub drawn-all : (style : Style) (aligns : List Alignment) (g : Grid (List ℕ)) (m : SpanMap) → Fits m g.rows g.columns → drawn_with style aligns g m ≡ picture_bytes style aligns g (rectangles m)
 unfolding drawn_with
 drawn-all style aligns g m fits = ap (picture_bytes style aligns g) (fitting-all m g.rows g.columns fits)
 
-pub drawn-kept : (style : Style) (aligns : List Alignment) (g : Grid (List ℕ)) (m : SpanMap) → AreSpanSizes m → drawn_with style aligns g m ≡ drawn_with style aligns g (keep_fitting g.rows g.columns m)
+pub drawn-kept : (style : Style) (aligns : List Alignment) (g : Grid (List ℕ)) (m : SpanMap) → drawn_with style aligns g m ≡ drawn_with style aligns g (keep_fitting g.rows g.columns m)
 unfolding drawn_with
-drawn-kept style aligns g m sizes = ap (picture_bytes style aligns g) (sym (kept-rectangles m g.rows g.columns sizes) ∙ sym (fitting-all (keep_fitting g.rows g.columns m) g.rows g.columns (keep_fitting-fits g.rows g.columns m sizes)))
+drawn-kept style aligns g m = ap (picture_bytes style aligns g) (sym (kept-rectangles m g.rows g.columns) ∙ sym (fitting-all (keep_fitting g.rows g.columns m) g.rows g.columns (keep_fitting-fits g.rows g.columns m)))
 
 -- ---- tables that are laid out
 
-module _ (g : Grid (List ℕ)) (m kept : SpanMap) (rows columns : ℕ) (is_rows : rows ≡ g.rows) (is_columns : columns ≡ g.columns) (is : kept ≡ keep_fitting rows columns m) (valid : AreSpanSizes m) where
+module _ (g : Grid (List ℕ)) (m kept : SpanMap) (rows columns : ℕ) (is_rows : rows ≡ g.rows) (is_columns : columns ≡ g.columns) (is : kept ≡ keep_fitting rows columns m) where
   pub fits-of : Fits kept g.rows g.columns
-  fits-of = rw (is, is_rows, is_columns) (keep_fitting-fits g.rows g.columns m valid)
+  fits-of = rw (is, is_rows, is_columns) (keep_fitting-fits g.rows g.columns m)
 
   -- the bytes are those of the merged cells that fit
   pub bytes-drawn : (style : Style) (aligns : List Alignment) → picture_bytes style aligns g (rectangles kept) ≡ drawn_with style aligns g m
   unfolding drawn_with
-  bytes-drawn style aligns = ap (λ k. picture_bytes style aligns g (rectangles k)) (is ∙ ap₂ (λ r c. keep_fitting r c m) is_rows is_columns) ∙ ap (picture_bytes style aligns g) (kept-rectangles m g.rows g.columns valid)
+  bytes-drawn style aligns = ap (λ k. picture_bytes style aligns g (rectangles k)) (is ∙ ap₂ (λ r c. keep_fitting r c m) is_rows is_columns) ∙ ap (picture_bytes style aligns g) (kept-rectangles m g.rows g.columns)

@@ -1,5 +1,5 @@
 -- A line of a picture, from its left edge to its right one.
-use Rattle.tabled_draw.proofs.Common.{Alignment, AllByRecursion, Arms, Bool, Columns, Grid, IsFine, IsFineMark, List, None, Option, Rectangle, Rows, Some, StandsIn, Style, [], add-one, add-zero, aligned, alignment_in, ap, append-nil, append_assoc, ap₂, are_none, arith, arms, border, cases_Bool, cases_lt, column_between, cond, cond-false, cond-true, differ, each, edge_between, eq-eqb, eqb, false, false_from_ne_true, false≢true, get_or, indent, inl, inr, left, length, length-replicate, lines_shown, mark, ne_eqb, none-some, picture_line, place, refl, replicate, room, shows, shows_in, subst, suc, sym, text_of_cell, text_width, top, true, widest, widths, zero, ℕ, ◌++◌, ◌+◌, ◌-◌, ◌<◌, ◌∙◌, ◌∷◌, ◌≡◌, ◌≢◌, ◌≤◌, ◌⊎◌}
+use Rattle.tabled_draw.proofs.Common.{cond_both, Alignment, AllByRecursion, Arms, Bool, Columns, Grid, IsFine, IsFineMark, List, None, Option, Rectangle, Rows, Some, StandsIn, Style, [], add-one, add-zero, aligned, alignment_in, ap, append-nil, append_assoc, ap₂, are_none, arith, arms, border, cases_Bool, cases_lt, column_between, cond, cond-false, cond-true, differ, each, edge_between, eq-eqb, eqb, false, false_from_ne_true, false≢true, get_or, indent, inl, inr, left, length, length-replicate, lines_shown, mark, ne_eqb, none-some, picture_line, place, refl, replicate, room, shows, shows_in, subst, suc, sym, text_of_cell, text_width, top, true, widest, widths, zero, ℕ, ◌++◌, ◌+◌, ◌-◌, ◌<◌, ◌∙◌, ◌∷◌, ◌≡◌, ◌≢◌, ◌≤◌, ◌⊎◌}
 use Rattle.std.proofs.lemmas.Bool.{true_from_ne_false}
 use Rattle.tabled_draw.specs.Borders.{number}
 use Rattle.tabled_draw.proofs.Arms.{differ-self, none-one, none-parts}
@@ -174,26 +174,22 @@ module _ (style : Style) (aligns : List Alignment) (g : Grid (List ℕ)) (es : L
     edge-wide j f = ap text_width (edge-is j f) ∙ columns-replicate (border Columns style g j) (mark_at j) (mark-fine style fine (eqb u d) (meeting_at j))
 
     edge-plain : (j : ℕ) → IsPlain (edge_at j)
-    edge-plain j = by (joint j)
-      where
-        by : (b : Bool) → IsPlain (cond b [] (replicate (border Columns style g j) (mark_at j)))
-        by true = plain-nil
-        by false = plain-marks (replicate (border Columns style g j) (mark_at j)) (all-marks (border Columns style g j) (mark_at j) (mark-fine style fine (eqb u d) (meeting_at j)))
+    edge-plain j =
+        let marks = replicate (border Columns style g j) (mark_at j) in
+        cond_both (joint j) [] marks IsPlain (λ none. plain-nil) (λ some. plain-marks marks (all-marks (border Columns style g j) (mark_at j) (mark-fine style fine (eqb u d) (meeting_at j))))
 
     column-plain : (j : ℕ) → IsPlain (column_at j)
-    column-plain j = by (differ (up (j + 1)) (down (j + 1)))
+    column-plain j =
+        let level = replicate (get_or (widths style g es) j 0 + 2) style.horizontal in
+        cond_both (differ (up (j + 1)) (down (j + 1))) level (shows_in style aligns g es n j (up (j + 1))) IsPlain
+        (λ apart. plain-marks level (all-marks (get_or (widths style g es) j 0 + 2) style.horizontal (level-fine style fine)))
+        (λ one. inside (up (j + 1)))
       where
-        shown : (b : Bool) (o : Rectangle) → IsPlain (cond b (shows style aligns g es n o) [])
-        shown true o = aligned-plain (alignment_in aligns o.first.col) (room Columns (border Columns style g) (widths style g es) o.first.col o.size.width) (get_or (lines_shown (text_of_cell g o.first)) (n - top style g es o.first.row - border Rows style g o.first.row) [])
-        shown false o = plain-nil
-
         inside : (p : Option Rectangle) → IsPlain (shows_in style aligns g es n j p)
         inside None = plain-nil
-        inside (Some o) = shown (eqb o.first.col j) o
-
-        by : (b : Bool) → IsPlain (cond b (replicate (get_or (widths style g es) j 0 + 2) style.horizontal) (shows_in style aligns g es n j (up (j + 1))))
-        by true = plain-marks (replicate (get_or (widths style g es) j 0 + 2) style.horizontal) (all-marks (get_or (widths style g es) j 0 + 2) style.horizontal (level-fine style fine))
-        by false = inside (up (j + 1))
+        inside (Some o) = cond_both (eqb o.first.col j) (shows style aligns g es n o) [] IsPlain
+            (λ begins. aligned-plain (alignment_in aligns o.first.col) (room Columns (border Columns style g) (widths style g es) o.first.col o.size.width) (get_or (lines_shown (text_of_cell g o.first)) (n - top style g es o.first.row - border Rows style g o.first.row) []))
+            (λ passes. plain-nil)
 
     part-plain : (j : ℕ) → IsPlain (part j)
     part-plain j = plain-append (edge_at j) (column_at j) (edge-plain j) (column-plain j)

@@ -1,5 +1,5 @@
 -- The lines of a picture, and what stands in them.
-use Rattle.tabled_draw.proofs.Common.{ASCII, Alignment, AllByRecursion, AreNoControls, Arms, Bool, Columns, Grid, IsFine, IsInside, IsNoControl, IsSeen, List, Member, None, Option, Position, Rectangle, Rows, ShowsTexts, Size, Some, StandBetween, StandsAt, StandsIn, Style, [], add-one, add-zero, aligned, alignment_in, all-append, and_from, any-from, ap, append_assoc, ap₂, arith, arms, border, border_line, cases_Bool, cases_eq, cases_lt, common_steps, cond, cond-false, cond-true, eqb, corner, count_along, differ, drawn_lines, each, eqb-false, false, false≢true, get_or, get_or-append-add, get_or_append_left, heights, holds, holds-from, indent, indent_of, inl, inner_height, inner_left, inner_top, inner_width, inr, is_amid, is_drawn, is_hidden_in, is_in_range, is_joined_above, is_joined_around, is_joined_beside, le-leb, left, length, length-append, length-replicate, lines_around, lines_of_row, lines_shown, list_any, lt-ltb, ltb-false, map, mark, meeting, nat_lt, nat_tests, none-some, not, owner_in, picture, picture_line, place, refl, replicate, room, same_place, same_place-apart, same_place-self, shown_character, shown_line, shows, shows_in, sized, subst, suc, sum, sum_by_more, sym, take, take_all, text_line, text_of_cell, text_width, top, total, true, widest, widths, zero, ℕ, ◌&&◌, ◌++◌, ◌+◌, ◌-◌, ◌<◌, ◌==◌, ◌||◌, ◌∙◌, ◌∷◌, ◌≡◌, ◌≢◌, ◌≤◌, ◌⊎◌, are_none, column_between, edge_between, inner_line, StandsFramed}
+use Rattle.tabled_draw.proofs.Common.{cond_both, ASCII, Alignment, AllByRecursion, AreNoControls, Arms, Bool, Columns, Grid, IsFine, IsInside, IsNoControl, IsSeen, List, Member, None, Option, Position, Rectangle, Rows, ShowsTexts, Size, Some, StandBetween, StandsAt, StandsIn, Style, [], add-one, add-zero, aligned, alignment_in, all-append, and_from, any-from, ap, append_assoc, ap₂, arith, arms, border, border_line, cases_Bool, cases_eq, cases_lt, common_steps, cond, cond-false, cond-true, eqb, corner, count_along, differ, drawn_lines, each, eqb-false, false, false≢true, get_or, get_or-append-add, get_or_append_left, heights, holds, holds-from, indent, indent_of, inl, inner_height, inner_left, inner_top, inner_width, inr, is_amid, is_drawn, is_hidden_in, is_in_range, is_joined_above, is_joined_around, is_joined_beside, le-leb, left, length, length-append, length-replicate, lines_around, lines_of_row, lines_shown, list_any, lt-ltb, ltb-false, map, mark, meeting, nat_lt, nat_tests, none-some, not, owner_in, picture, picture_line, place, refl, replicate, room, same_place, same_place-apart, same_place-self, shown_character, shown_line, shows, shows_in, sized, subst, suc, sum, sum_by_more, sym, take, take_all, text_line, text_of_cell, text_width, top, total, true, widest, widths, zero, ℕ, ◌&&◌, ◌++◌, ◌+◌, ◌-◌, ◌<◌, ◌==◌, ◌||◌, ◌∙◌, ◌∷◌, ◌≡◌, ◌≢◌, ◌≤◌, ◌⊎◌, are_none, column_between, edge_between, inner_line, StandsFramed}
 use Rattle.std.proofs.Common.{chars}
 use borrow.Author.Tests.{ne_eqb, eq-eqb}
 use Rattle.tabled_draw.proofs.Each.{all-each, get-singles, length-singles, split-each}
@@ -42,11 +42,7 @@ stands-part row columns a b c plain s = record {
 
 -- a line is drawn once, or not
 pub border-least : (axis : Axis) (style : Style) (g : Grid (List ℕ)) (k : ℕ) → border axis style g k ≤ 1
-border-least axis style g k = by (is_drawn (lines_around axis style) (count_along axis g) k)
-  where
-    by : (b : Bool) → cond b 1 0 ≤ 1
-    by true = omega arith
-    by false = omega arith
+border-least axis style g k = cond_both (is_drawn (lines_around axis style) (count_along axis g) k) 1 0 (λ size. size ≤ 1) (λ yes. omega arith) (λ no. omega arith)
 
 all-replicate : {A : Type 0} (P : A → Type 0) (n : ℕ) (x : A) → P x → AllByRecursion P (replicate n x)
 all-replicate P zero x h = tt
@@ -347,28 +343,23 @@ module _ (style : Style) (aligns : List Alignment) (g : Grid (List ℕ)) (es : L
 
   all-shows_in : (n j : ℕ) (a : Option Rectangle) → AreNoControls (shows_in style aligns g es n j a)
   all-shows_in n j None = tt
-  all-shows_in n j (Some o) = by (o.first.col == j)
-    where
-      by : (b : Bool) → AreNoControls (cond b (shows style aligns g es n o) [])
-      by true = all-shows n o
-      by false = tt
+  all-shows_in n j (Some o) = cond_both (o.first.col == j) (shows style aligns g es n o) [] AreNoControls (λ begins. all-shows n o) (λ passes. tt)
 
   abbrev whose : ℕ → ℕ → Option Rectangle
   whose i j = owner g.rows g.columns es i j
 
   all-edge : (u d j : ℕ) → AreNoControls (edge_between style g es u d j)
-  all-edge u d j = by (are_none (arms (whose u j) (whose u (j + 1)) (whose d j) (whose d (j + 1))))
-    where
-      by : (b : Bool) → AreNoControls (cond b [] (replicate (border Columns style g j) (mark style (eqb u d) (arms (whose u j) (whose u (j + 1)) (whose d j) (whose d (j + 1))))))
-      by true = tt
-      by false = all-repeated (border Columns style g j) _ (mark-fine style fine (eqb u d) (arms (whose u j) (whose u (j + 1)) (whose d j) (whose d (j + 1)))).plain
+  all-edge u d j =
+      let meeting = arms (whose u j) (whose u (j + 1)) (whose d j) (whose d (j + 1)) in
+      let marks = replicate (border Columns style g j) (mark style (eqb u d) meeting) in
+      cond_both (are_none meeting) [] marks AreNoControls (λ none. tt) (λ some. all-repeated (border Columns style g j) _ (mark-fine style fine (eqb u d) meeting).plain)
 
   all-column : (n u d j : ℕ) → AreNoControls (column_between style aligns g es n u d j)
-  all-column n u d j = by (differ (whose u (j + 1)) (whose d (j + 1)))
-    where
-      by : (b : Bool) → AreNoControls (cond b (replicate (get_or (widths style g es) j 0 + 2) style.horizontal) (shows_in style aligns g es n j (whose u (j + 1))))
-      by true = all-repeated (get_or (widths style g es) j 0 + 2) _ (level-fine style fine).plain
-      by false = all-shows_in n j (whose u (j + 1))
+  all-column n u d j =
+      let level = replicate (get_or (widths style g es) j 0 + 2) style.horizontal in
+      cond_both (differ (whose u (j + 1)) (whose d (j + 1))) level (shows_in style aligns g es n j (whose u (j + 1))) AreNoControls
+      (λ apart. all-repeated (get_or (widths style g es) j 0 + 2) _ (level-fine style fine).plain)
+      (λ one. all-shows_in n j (whose u (j + 1)))
 
   all-line : (n u d : ℕ) → AreNoControls (picture_line style aligns g es n u d)
   all-line n u d =

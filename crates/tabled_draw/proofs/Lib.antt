@@ -13,11 +13,11 @@ pub mod LawPicture
 pub mod OneLine
 pub mod Order
 pub mod Owned
+pub mod Pens
 pub mod PictureWidths
 pub mod Replaced
 pub mod Rows
 pub mod Runs
-pub mod Sent
 pub mod Shares
 pub mod Shown
 pub mod Singly

@@ -1,14 +1,12 @@
 -- A row of a table is a line of Markdown.
 use Rattle.std.proofs.lemmas.List.Elements.{All-from_recursion}
 use Rattle.std.proofs.lemmas.Option.{unwrap_or-slice_get}
-use Rattle.std.specs.FinMap as map
-use Rattle.std.specs.FinMap.{entries, len, len-empty, len-entries}
 use Rattle.std.specs.Prelude.{codes}
-use Rattle.tabled_draw.proofs.Common.{[], ◌&&◌, ◌+◌, ◌<◌, ◌==◌, ◌||◌, ◌∙◌, ◌∷◌, ◌≡◌, Alignment, AllByRecursion, Bool, Grid, IsInside, List, Position, Rectangle, Rows, Size, SpanMap, add-one, add-zero, all-append, ap, append-nil, ap₂, arith, border, by_number, cond, cond-true, drawn_lines, each, eqb, false, fitting, fold, get_or, grown_for, heights, in_order, is_hidden_in, largest, length, lines_shown, map, max, nat_lt, ne_eqb, nil_from_length, own, own_sizes, picture, picture_bytes, place, position_cmp, rectangles, refl, same_place-self, shown_line, slice_split_none, subst, suc, sum, sym, text_of_cell, total, true, zero, ℕ}
+use Rattle.tabled_draw.proofs.Common.{[], ◌&&◌, ◌+◌, ◌<◌, ◌==◌, ◌||◌, ◌∙◌, ◌∷◌, ◌≡◌, Alignment, AllByRecursion, Bool, Grid, IsInside, List, Position, Rectangle, Rows, Size, SpanMap, add-one, add-zero, all-append, ap, append-nil, ap₂, arith, border, by_number, cond, cond-true, drawn_lines, each, eqb, false, fitting, fold, get_or, grown_for, heights, in_order, is_hidden_in, largest, length, lines_shown, map, max, nat_lt, ne_eqb, nil_from_length, own, own_sizes, picture, picture_bytes, place, position_cmp, rectangles, refl, same_place-self, shown_line, slice_split_none, subst, suc, sum, sym, text_of_cell, total, true, zero, ℕ, rectangles-map_of}
 use Rattle.tabled_draw.proofs.Each.{all-each, get-singles, length-singles}
 use Rattle.tabled_draw.proofs.LawPicture.{lines-number}
 use Rattle.tabled_draw.proofs.Sizes.{length-own}
-use Rattle.tabled_grid.specs.Spans.{of_pairs}
+use Rattle.tabled_grid.specs.Spans.{empty, empty-is}
 use Rattle.tabled_draw.specs.Markdown.{apart, cell_apart, escaped, escaped_byte, markdown, needs_backslash, row_apart, rows_apart}
 use Rattle.tabled_draw.specs.Picture.{drawn_with}
 use Rattle.tabled_draw.specs.Sizes.{sizes}
@@ -95,12 +93,12 @@ drawn_one t some = ap (λ n. total n (border Rows MARKDOWN t)) (add-one t.rows) 
 
 -- ---- the lines
 
-no_anchors : (m : SpanMap) → m ≡ map.empty → rectangles m ≡ []
-no_anchors m is = ap of_pairs (nil_from_length (entries m) (sym (len-entries m) ∙ ap len is ∙ len-empty position_cmp Size))
+no_anchors : (m : SpanMap) → m ≡ empty → rectangles m ≡ []
+no_anchors m is = ap rectangles (is ∙ empty-is) ∙ rectangles-map_of [] (record { sorted = tt; sizes = tt })
 
 pub lines-written : (aligns : List Alignment) (g : Grid (List ℕ)) (m : SpanMap) → markdown aligns g m ≡ picture_bytes MARKDOWN aligns (apart g m) []
 unfolding markdown drawn_with
-lines-written aligns g m = ap (λ (es : List Rectangle). picture_bytes MARKDOWN aligns (apart g m) (fitting (apart g m).rows (apart g m).columns es)) (no_anchors map.empty refl)
+lines-written aligns g m = ap (λ (es : List Rectangle). picture_bytes MARKDOWN aligns (apart g m) (fitting (apart g m).rows (apart g m).columns es)) (no_anchors empty refl)
 
 width : (rows : List (List (List ℕ))) → width_of rows ≡ length (get_or rows 0 [])
 width [] = refl

@@ -6,6 +6,7 @@ use Rattle.std.proofs.lemmas.Str.{encodes-chars}
 use Rattle.std.specs.List.{onto_first}
 use Rattle.std.specs.Str.{chars}
 use Rattle.tabled_draw.proofs.Each.{get-singles}
+use Rattle.tabled_draw.proofs.Widths.{cond-alike}
 use Rattle.unicode_width.proofs.Computing.{unicode_width}
 use Rattle.unicode_width.specs.Kind.{is_ligature_transparent, is_text_presentation_base, kind}
 use Rattle.unicode_width.specs.Width.{Reading, added, alone, before, before_alef, if_kept, in_context, is_emoji, is_emoji_modifier_base, is_emoji_variation_base, is_joined_emoji, is_kept, is_lam, is_line_feed, is_plain, is_quote, joined_or, joins, of_kind, past_emoji, past_selectors, plain, read_before, single, skips_marks, step, str_width, with_joiner}
@@ -16,10 +17,6 @@ use Rattle.unicode_width.specs.declared.state.After.TheVariants.{Nothing, LineFe
 use Rattle.unicode_width.specs.declared.state.Change.{Change}
 use Rattle.unicode_width.specs.declared.state.Change.TheVariants.{Same}
 use Rattle.unicode_width.specs.declared.state.State.{State}
-
-either : {A : Type 0} (b : Bool) (x y z : A) → x ≡ z → y ≡ z → cond b x y ≡ z
-either true x y z p q = p
-either false x y z p q = q
 
 and-first : (a b : Bool) → a ≡ false → (a && b) ≡ false
 and-first a b e = ap (λ x. x && b) e
@@ -220,7 +217,7 @@ module _ (c : ℕ) (looked : looks c ≡ neutral) (where_it_is : ((0x23FF < c) �
       cond-false (c == 0x0A) _ _ (apart 0x0A (inl (omega arith)) (λ e. omega (arith, e)))
       ∙ cond-false _ _ _ (and-first (c == 0x0D) (is_line_feed s.after) (apart 0x0D (inl (omega arith)) (λ e. omega (arith, e))))
       ∙ cond-false (nat_le c 0xA0) _ _ (above low)
-      ∙ either (is_plain s) (added t (alone false c)) (in_context false c t s) (t + 1, plain) counts context
+      ∙ cond-alike (is_plain s) (added t (alone false c)) (in_context false c t s) (t + 1, plain) counts context
     where
       above : 0x23FF < c → nat_le c 0xA0 ≡ false
       above h = grind (arith, nat_tests)
@@ -245,7 +242,7 @@ module _ (c : ℕ) (looked : looks c ≡ neutral) (where_it_is : ((0x23FF < c) �
   step-neutral : (r : Reading) → step false c r ≡ (r.0 + 1, plain)
   unfolding step
   step-neutral (t, s) =
-      either (not s.emoji) (past_emoji false c t s) _ (t + 1, plain) (past-neutral t s)
+      cond-alike (not s.emoji) (past_emoji false c t s) _ (t + 1, plain) (past-neutral t s)
       (cond-false (is_emoji_variation_base c) _ _ no_base ∙ past-neutral t (record (if_kept s) { emoji = false }))
 
 -- ---- a newline alone is read as one
@@ -442,7 +439,7 @@ past-control c t s other below quiet =
 step-control : (c : ℕ) (r : Reading) → c ≢ 10 → c < 161 → is_emoji_variation_base c ≡ false → calm r → step false c r ≡ (r.0 + 1, plain)
 unfolding step calm
 step-control c (t, s) other below base quiet =
-    either (not s.emoji) (past_emoji false c t s) _ (t + 1, plain) (past-control c t s other below quiet)
+    cond-alike (not s.emoji) (past_emoji false c t s) _ (t + 1, plain) (past-control c t s other below quiet)
     (cond-false (is_emoji_variation_base c) _ _ base ∙ past-control c t (record (if_kept s) { emoji = false }) other below (kept-calm s))
 
 -- ---- lines

@@ -188,7 +188,7 @@ module _ (style : Style) (aligns : List Alignment) (g : Grid (List ℕ)) (m : Sp
       line-is style aligns g m fits edges laid n i (i + 1) false (sym (ne_eqb i (i + 1) (λ e. omega (arith, e)))) above here over under texts (next-of i (i + 1) n texts was) columns same
       ∙ ap (λ k. picture_line style aligns g (rectangles m) k i (i + 1) ++ (10 ∷ [])) is
 
-  -- the same, if it is drawn
+  -- the line above a row, if it is drawn
   pub border-text : (i n rows : ℕ) (above here : List (Option Rectangle)) (rests : List (Bor (List ℕ))) → rows ≡ g.rows → n ≡ top style g (rectangles m) i → IsOwnerRow g.rows g.columns m i above → IsOwnerRow g.rows g.columns m (i + 1) here → AreLeft style g m i n (bytes_in rests) → length rests ≡ g.columns
       → border_of_rests style aligns rows i edges above here rests ≡ with_newlines (border_line style aligns g (rectangles m) i)
   border-text i n rows above here rests same is over under was long = rw same (by (cases_Bool (is_drawn style.rows g.rows i)))

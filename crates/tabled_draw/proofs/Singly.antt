@@ -1,10 +1,10 @@
 -- Rows of texts that are made one after another.
 use Rattle.std.proofs.lemmas.List.{map-append}
-use Rattle.std.specs.FinMap as map
 use Rattle.std.specs.Global.{Vec}
-use Rattle.tabled_draw.proofs.Common.{[], ◌++◌, ◌+◌, ◌∙◌, ◌∷◌, ◌≡◌, Alignment, AreSpanSizes, Grid, List, SpanMap, Style, all-append, ap, ap₂, each, fitting, keep_fitting, length, length-map, map, map_grid, rectangles, refl, subst, sym, ℕ}
+use Rattle.tabled_draw.proofs.Common.{[], ◌++◌, ◌+◌, ◌∙◌, ◌∷◌, ◌≡◌, Alignment, Grid, List, SpanMap, Style, all-append, ap, ap₂, each, fitting, keep_fitting, length, length-map, map, map_grid, rectangles, refl, subst, sym, ℕ}
 use Rattle.tabled_draw.proofs.Each.{each-more}
 use Rattle.tabled_draw.proofs.Fitting.{kept-rectangles}
+use Rattle.tabled_grid.specs.Spans.{empty}
 use Rattle.tabled_draw.specs.Markdown.{apart, markdown, rows_apart}
 use Rattle.tabled_draw.specs.Picture.{drawn_with}
 use Rattle.tabled_draw.specs.declared.style.TheConstants.Style.{MARKDOWN}
@@ -37,12 +37,12 @@ module _ {A : Type 0} where
   even-wide n (row ∷ rows) wide = record { tall = refl; wide = subst (λ k. AreWide k (row ∷ rows)) (sym wide.0) wide }
 
 -- the texts are those of the table as Markdown has it, by the merged cells that are kept
-pub texts-apart : {A : Type 0} (f : A → List ℕ) (vs : List (Vec A)) (g : Grid (List ℕ)) (m kept : SpanMap) (rows columns : ℕ) → rows ≡ g.rows → columns ≡ g.columns → kept ≡ keep_fitting rows columns m → AreSpanSizes m → map (map f) (map_items vs) ≡ rows_apart g (rectangles kept) → map_grid f (grid_of (map_items vs)) ≡ apart g m
-texts-apart f vs g m kept rows columns is_rows is_columns is sizes texts =
-    let es : rectangles kept ≡ fitting g.rows g.columns (rectangles m) = ap rectangles is ∙ ap₂ (λ r c. rectangles (keep_fitting r c m)) is_rows is_columns ∙ kept-rectangles m g.rows g.columns sizes in
+pub texts-apart : {A : Type 0} (f : A → List ℕ) (vs : List (Vec A)) (g : Grid (List ℕ)) (m kept : SpanMap) (rows columns : ℕ) → rows ≡ g.rows → columns ≡ g.columns → kept ≡ keep_fitting rows columns m → map (map f) (map_items vs) ≡ rows_apart g (rectangles kept) → map_grid f (grid_of (map_items vs)) ≡ apart g m
+texts-apart f vs g m kept rows columns is_rows is_columns is texts =
+    let es : rectangles kept ≡ fitting g.rows g.columns (rectangles m) = ap rectangles is ∙ ap₂ (λ r c. rectangles (keep_fitting r c m)) is_rows is_columns ∙ kept-rectangles m g.rows g.columns in
     grid-is f (map_items vs) ∙ ap grid_of (texts ∙ ap (rows_apart g) es)
 
 -- the picture of a table's texts as Markdown has them is the table as Markdown
-pub drawn-apart : (style : Style) (aligns given : List Alignment) (g h : Grid (List ℕ)) (m n : SpanMap) (bytes : List ℕ) → style ≡ MARKDOWN → aligns ≡ given → h ≡ apart g m → n ≡ map.empty → bytes ≡ drawn_with style aligns h n → bytes ≡ markdown given g m
+pub drawn-apart : (style : Style) (aligns given : List Alignment) (g h : Grid (List ℕ)) (m n : SpanMap) (bytes : List ℕ) → style ≡ MARKDOWN → aligns ≡ given → h ≡ apart g m → n ≡ empty → bytes ≡ drawn_with style aligns h n → bytes ≡ markdown given g m
 unfolding markdown
 drawn-apart style aligns given g h m n bytes is same texts none drawn = rw (is, same, texts, none) at drawn

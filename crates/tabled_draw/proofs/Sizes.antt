@@ -340,7 +340,7 @@ module _ (axis : Axis) (g : Grid (List ℕ)) (es : List Rectangle) where
             ap (λ z. get_or (set sizes line (max (get_or sizes line 0) (own axis g es p))) z 0) same ∙ get_or-set_same sizes line _ 0 within
             ∙ ap (λ a. max a (own axis g es p)) (was.each line (line-within axis g i j h w)) ∙ sym here ∙ ap (λ z. largest (count_along (across axis) g) (asked_at i (j + 1) z)) (sym same)
 
-    -- the same, by the owner of the place
+    -- sizes that are raised to what the text of the place asks, by its owner
     pub measured-raised : (new : List ℕ) (o : Option Rectangle) → o ≡ Some (owner_in es (place i j)) → new ≡ raised axis g sizes o (place i j) → Measured axis g es i (j + 1) new
     unfolding p line
     measured-raised new o owned is = measured-more new (is ∙ ap (λ (x : Option Rectangle). raised axis g sizes x p) owned)

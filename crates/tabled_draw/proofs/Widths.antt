@@ -12,14 +12,15 @@ pub read-append : (xs ys : List ℕ) (r : Reading) → read_before false (xs ++ 
 read-append [] ys r = refl
 read-append (x ∷ xs) ys r = ap (step false x) (read-append xs ys r)
 
-either : {A : Type 0} (b : Bool) (x y z : A) → x ≡ z → y ≡ z → cond b x y ≡ z
-either true x y z p q = p
-either false x y z p q = q
+-- whatever is tested, where both ways come to one
+pub cond-alike : {A : Type 0} (b : Bool) (x y z : A) → x ≡ z → y ≡ z → cond b x y ≡ z
+cond-alike true x y z p q = p
+cond-alike false x y z p q = q
 
 -- a blank counts one, whatever stands behind it
 pub read-blank : (r : Reading) → step false 32 r ≡ (r.0 + 1, plain)
 unfolding unicode_width
-read-blank (t, s) = either (not s.emoji) (t + 1, plain) (t + 1, plain) (t + 1, plain) refl refl
+read-blank (t, s) = cond-alike (not s.emoji) (t + 1, plain) (t + 1, plain) (t + 1, plain) refl refl
 
 read-blanks : (n t : ℕ) → read_before false (replicate n 32) (t, plain) ≡ (t + n, plain)
 read-blanks zero t = ap (λ k. (k, plain)) (sym (add-zero t))

@@ -76,7 +76,7 @@ number a = weight a.up 8 + weight a.right 4 + weight a.down 2 + weight a.left 1
 abbrev pub corner : Style → Arms → ℕ
 corner style a = slice_index_or style.corners (number a) 32
 
--- the same, if it has one
+-- the character of a corner, if it has an arm
 abbrev pub corner_if : Style → Arms → Option ℕ
 corner_if style a = if are_none a then None else Some (corner style a)
 

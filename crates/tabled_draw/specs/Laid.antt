@@ -1,32 +1,28 @@
--- Where columns and rows lie, and how much room drawing has.
-use Rattle.std.specs.Prelude.{◌≡◌, ◌+◌, ◌<◌, ℕ, List, [], length, slice_index_or}
-use denote.Ref.{Bor}
-use Rattle.tabled_draw.specs.Lines.{IsBetween}
-use Rattle.tabled_draw.specs.Owners.{Owner}
+-- Where columns and rows lie.
+use Rattle.std.specs.Prelude.{◌≡◌, ◌+◌, ◌<◌, ℕ, List, length, slice_index_or}
+use Rattle.tabled_draw.specs.Borders.{line_size}
 use Rattle.tabled_draw.specs.Picture.{left}
-use Rattle.tabled_draw.specs.Runs.{run_of}
-use Rattle.tabled_draw.specs.Sizes.{heights}
+use Rattle.tabled_draw.specs.Sizes.{heights, start_of}
+use Rattle.tabled_draw.specs.declared.layout.Layout.{Layout}
+use Rattle.tabled_draw.specs.declared.style.Lines.{Lines}
 use Rattle.tabled_draw.specs.declared.style.Style.{Style}
 use Rattle.tabled_grid.specs.Grid.{Grid}
-use Rattle.tabled_grid.specs.Fitting.{Fits}
 use Rattle.tabled_grid.specs.Spans.{SpanMap, rectangles}
-use Rattle.tabled_held.specs.Sent.{Kept}
+use Rattle.tabled_grid.specs.declared.records.axis.Axis.TheVariants.{Columns}
 
 -- the left edge of each column, and the last edge
 pub record AreEdges (style : Style) (g : Grid (List ℕ)) (m : SpanMap) (edges : List ℕ) : Type 0 where
   pub long : length edges ≡ g.columns + 1
   pub each : (k : ℕ) → k < g.columns + 1 → slice_index_or edges k 0 ≡ left style g (rectangles m) k
 
--- the layout of a table, room for two rows of owners and for a text in each column, a run of the level border, and a line
--- between two rows
-pub record IsLaidOut (style : Style) (g : Grid (List ℕ)) (m : SpanMap) (lefts highs : List ℕ) (over under : List Owner) (texts : List (Bor (List ℕ))) (run line : List ℕ) (kept : Kept) : Type 0 where
-  pub fits : Fits m g.rows g.columns
-  pub edges : AreEdges style g m lefts
-  pub heights : highs ≡ heights style g (rectangles m)
-  pub tall : length highs ≡ g.rows
-  pub above : length over ≡ g.columns + 2
-  pub here : length under ≡ g.columns + 2
-  pub rests : length texts ≡ g.columns
-  pub level : run ≡ run_of style.horizontal
-  pub between : IsBetween style g.columns lefts line
-  pub unused : kept.bytes ≡ []
+-- the left edge of each column, and the last edge, by the widths of columns and the lines around them
+pub record AreEdgesOf (lines : Lines) (sizes edges : List ℕ) : Type 0 where
+  pub long : length edges ≡ length sizes + 1
+  pub each : (k : ℕ) → k < length sizes + 1 → slice_index_or edges k 0 ≡ start_of Columns (line_size lines (length sizes)) sizes k
+
+-- the edges of a table's columns and the heights of its rows, and room for two rows of owners
+pub record IsLayout (style : Style) (g : Grid (List ℕ)) (m : SpanMap) (layout : Layout) : Type 0 where
+  pub edges : AreEdges style g m layout.edges.items
+  pub heights : layout.heights.items ≡ heights style g (rectangles m)
+  pub above : length layout.above.items ≡ g.columns + 2
+  pub here : length layout.here.items ≡ g.columns + 2

@@ -57,7 +57,7 @@ text_inside aligns drawn edges j (Some o) text = if o.first.col == j then cell (
 abbrev pub column_if : Style → List Alignment → Bool → Bool → List ℕ → ℕ → Owner → List ℕ → List ℕ
 column_if style aligns drawn apart edges j a text = if apart then level style drawn edges j else text_inside aligns drawn edges j a text
 
--- the same, by the owners above and below
+-- what stands in a column, by the owners above and below
 abbrev pub column : Style → List Alignment → Bool → List ℕ → ℕ → Owner → Owner → List ℕ → List ℕ
 column style aligns drawn edges j a b text = column_if style aligns drawn (differ a b) edges j a text
 
@@ -69,7 +69,7 @@ left_inside j a text = if begins j a then after_line text else text
 abbrev pub left_if : ℕ → Bool → Owner → List ℕ → List ℕ
 left_if j apart a text = if apart then text else left_inside j a text
 
--- the same, by the owners above and below
+-- what is left of the text in a column, by the owners above and below
 abbrev pub left_of : ℕ → Owner → Owner → List ℕ → List ℕ
 left_of j a b text = left_if j (differ a b) a text
 

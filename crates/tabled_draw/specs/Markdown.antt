@@ -1,7 +1,6 @@
 -- Tables as Markdown: what their bytes are, and what a reader of Markdown takes those of a cell for.
 use Rattle.std.specs.Prelude.{◌==◌, ◌&&◌, ◌||◌, if◌then◌else◌, ℕ, Bool, List, [], ◌∷◌, Option, None, Some, codes, slice_index_or, suc, take, zero}
 use Rattle.std.specs.Char.{is_ascii_punctuation}
-use Rattle.std.specs.FinMap as map
 use Rattle.std.specs.List.{flat_map}
 use Rattle.std.specs.Option.{option_map}
 use Rattle.std.specs.Str.{bytes_eq}
@@ -14,7 +13,7 @@ use Rattle.tabled_grid.specs.Anchors.{is_hidden_in}
 use Rattle.tabled_grid.specs.Entity.{place}
 use Rattle.tabled_grid.specs.Fitting.{fitting}
 use Rattle.tabled_grid.specs.Grid.{Grid, grid_of}
-use Rattle.tabled_grid.specs.Spans.{SpanMap, rectangles}
+use Rattle.tabled_grid.specs.Spans.{SpanMap, empty, rectangles}
 use Rattle.tabled_grid.specs.declared.config.rectangle.Rectangle.{Rectangle}
 use Rattle.tabled_grid.specs.declared.config.position.Position.{Position}
 
@@ -54,7 +53,7 @@ markdown_lines aligns g m = picture MARKDOWN aligns (apart g m) []
 
 -- the bytes of a table as Markdown
 unfoldable pub markdown : List Alignment → Grid (List ℕ) → SpanMap → List ℕ
-markdown aligns g m = drawn_with MARKDOWN aligns (apart g m) map.empty
+markdown aligns g m = drawn_with MARKDOWN aligns (apart g m) empty
 
 -- ---- what is read
 

@@ -1,9 +1,9 @@
 -- What is said of pictures as a whole.
-use Rattle.std.specs.Prelude.{◌≡◌, ◌+◌, ◌-◌, ◌≤◌, if◌then◌else◌, ℕ, Bool, List, max, slice_index_or, slice_set}
-use Rattle.std.specs.List.{AllByRecursion, fold}
+use Rattle.std.specs.Prelude.{◌≡◌, ◌+◌, ◌-◌, ◌≤◌, ◌⊎◌, if◌then◌else◌, ℕ, Bool, List, [], length, max, slice_index_or, slice_set}
+use Rattle.std.specs.List.{AllByRecursion, fold, sum}
 use Rattle.tabled_draw.specs.Marks.{IsFine, IsNoControl}
-use Rattle.tabled_draw.specs.Picture.{left, picture}
-use Rattle.tabled_draw.specs.Sizes.{asks, own_sizes, room, sizes, text_of_cell}
+use Rattle.tabled_draw.specs.Picture.{drawn_with, left, picture, picture_bytes}
+use Rattle.tabled_draw.specs.Sizes.{asks, heights, own_sizes, room, sizes, text_of_cell}
 use Rattle.tabled_draw.specs.Each.{is_in_range, total}
 use Rattle.tabled_draw.specs.Borders.{border}
 use Rattle.tabled_draw.specs.Texts.{text_width}
@@ -11,20 +11,29 @@ use Rattle.tabled_draw.specs.declared.alignment.Alignment.{Alignment}
 use Rattle.tabled_draw.specs.declared.style.Style.{Style}
 use Rattle.tabled_grid.specs.declared.records.axis.Axis.TheVariants.{Rows, Columns}
 use Rattle.tabled_grid.specs.Axis.{line_of, lines_in}
+use Rattle.tabled_grid.specs.Entity.{place}
 use Rattle.tabled_grid.specs.Fitting.{Fits, fitting}
-use Rattle.tabled_grid.specs.Grid.{Grid}
-use Rattle.tabled_grid.specs.Spans.{AreSpanSizes, SpanMap, rectangles}
+use Rattle.tabled_grid.specs.Grid.{Grid, IsInside}
+use Rattle.tabled_grid.specs.Spans.{SpanMap, rectangles}
 use Rattle.tabled_grid.specs.declared.config.rectangle.Rectangle.{Rectangle}
 use Rattle.tabled_grid.specs.declared.records.axis.Axis.{Axis}
 
 -- what is said of looks, tables and merged cells holds where these fit their table, and so always of those that are drawn
 pub record HoldsOfPictures (Says : Style → List Alignment → Grid (List ℕ) → List Rectangle → Type 0) : Type 0 where
   pub where_all_fit : (style : Style) (aligns : List Alignment) (g : Grid (List ℕ)) (m : SpanMap) → Fits m g.rows g.columns → Says style aligns g (rectangles m)
-  pub of_drawn : (style : Style) (aligns : List Alignment) (g : Grid (List ℕ)) (m : SpanMap) → AreSpanSizes m → Says style aligns g (fitting g.rows g.columns (rectangles m))
+  pub of_drawn : (style : Style) (aligns : List Alignment) (g : Grid (List ℕ)) (m : SpanMap) → Says style aligns g (fitting g.rows g.columns (rectangles m))
+
+-- it holds of any, whether all merged cells fit or not
+abbrev pub HoldsOfAll : (Style → List Alignment → Grid (List ℕ) → List Rectangle → Type 0) → Type 0
+HoldsOfAll Says = (style : Style) (aligns : List Alignment) (g : Grid (List ℕ)) (es : List Rectangle) → Says style aligns g es
 
 -- no character of a line is a control character
 abbrev pub AreNoControls : List ℕ → Type 0
 AreNoControls line = AllByRecursion IsNoControl line
+
+-- so is it in all lines, in a style whose characters are fine
+abbrev pub HasNoControls : Style → List Alignment → Grid (List ℕ) → List Rectangle → Type 0
+HasNoControls style aligns g es = IsFine style → AllByRecursion AreNoControls (picture style aligns g es)
 
 -- each line takes as many columns as there are before the table's right edge, and one for that edge if it is drawn
 abbrev pub AreEquallyWide : Style → List Alignment → Grid (List ℕ) → List Rectangle → Type 0
@@ -33,6 +42,22 @@ AreEquallyWide style aligns g es = IsFine style → AllByRecursion (λ line. tex
 -- the number of lines that are drawn around the rows of a table
 abbrev pub drawn_lines : Style → Grid (List ℕ) → ℕ
 drawn_lines style g = total (g.rows + 1) (border Rows style g)
+
+-- the picture of a table with a cell has a line for each line of a row, and one for each line around the rows that is drawn
+abbrev pub HasAsManyLines : Style → List Alignment → Grid (List ℕ) → List Rectangle → Type 0
+HasAsManyLines style aligns g es = IsInside g (place 0 0) → length (picture style aligns g es) ≡ sum (heights style g es) + drawn_lines style g
+
+-- the picture of a table without cells has no line
+abbrev pub HasNoLinesWithoutCells : Style → List Alignment → Grid (List ℕ) → List Rectangle → Type 0
+HasNoLinesWithoutCells style aligns g es = (g.rows ≡ 0) ⊎ (g.columns ≡ 0) → picture style aligns g es ≡ []
+
+-- in each look, two tables with merged cells have one picture
+abbrev pub AreDrawnAlike : Grid (List ℕ) → SpanMap → Grid (List ℕ) → SpanMap → Type 0
+AreDrawnAlike g m h k = (style : Style) (aligns : List Alignment) → drawn_with style aligns g m ≡ drawn_with style aligns h k
+
+-- in each look, the picture of a table is that with all its merged cells
+abbrev pub IsDrawnWhole : Grid (List ℕ) → SpanMap → Type 0
+IsDrawnWhole g m = (style : Style) (aligns : List Alignment) → drawn_with style aligns g m ≡ picture_bytes style aligns g (rectangles m)
 
 -- a merged cell takes a row, or a column
 abbrev pub takes : Axis → ℕ → Rectangle → Bool

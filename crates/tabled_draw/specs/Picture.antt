@@ -28,7 +28,7 @@ abbrev pub shows : Style → List Alignment → Grid (List ℕ) → List Rectang
 shows style aligns g es n o =
     cell (alignment_in aligns o.first.col) (room Columns (border Columns style g) (widths style g es) o.first.col o.size.width) (text_of_cell g o.first) (n - top style g es o.first.row - border Rows style g o.first.row)
 
--- the same in a column, if the cell begins there: elsewhere nothing
+-- what it shows in a column of that line: its text where it begins, elsewhere nothing
 abbrev pub shows_in : Style → List Alignment → Grid (List ℕ) → List Rectangle → ℕ → ℕ → Owner → List ℕ
 shows_in style aligns g es n j None = []
 shows_in style aligns g es n j (Some o) = if o.first.col == j then shows style aligns g es n o else []
@@ -82,14 +82,18 @@ row_text style aligns g m i = with_newlines (lines_of_row style aligns g (rectan
 abbrev pub picture_text : Style → List Alignment → Grid (List ℕ) → SpanMap → List ℕ
 picture_text style aligns g m = with_newlines (picture style aligns g (rectangles m))
 
+-- the bytes of lines, with a newline after each
+abbrev pub bytes_of_lines : List (List ℕ) → List ℕ
+bytes_of_lines lines = encode_utf8_all (with_newlines lines)
+
 -- the bytes of the picture of a table with merged cells
 abbrev pub picture_bytes : Style → List Alignment → Grid (List ℕ) → List Rectangle → List ℕ
-picture_bytes style aligns g es = encode_utf8_all (with_newlines (picture style aligns g es))
+picture_bytes style aligns g es = bytes_of_lines (picture style aligns g es)
 
 -- the bytes of the picture of a table with those of its merged cells that fit it
 unfoldable pub drawn_with : Style → List Alignment → Grid (List ℕ) → SpanMap → List ℕ
 drawn_with style aligns g m = picture_bytes style aligns g (fitting g.rows g.columns (rectangles m))
 
--- the same in the look that the original crate has by default
+-- the bytes of that picture in the look that the original crate has by default
 abbrev pub drawn : Grid (List ℕ) → SpanMap → List ℕ
 drawn g m = drawn_with ASCII [] g m

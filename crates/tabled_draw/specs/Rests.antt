@@ -28,13 +28,13 @@ abbrev pub AreCut : List Owner → List Owner → List (Bor (List ℕ)) → List
 AreCut above below old new =
     (j : ℕ) → j < length old → slice_index_or (bytes_in new) j [] ≡ left_of j (slice_index_or above (j + 1) None) (slice_index_or below (j + 1) None) (slice_index_or (bytes_in old) j [])
 
--- the same in one column, in which a border was drawn, or a line of its owner's text
+-- in one column, what is left of the text once a border is drawn there, or a line of its owner's text
 pub record IsCutAt (j : ℕ) (apart : Bool) (a : Owner) (old new : List (Bor (List ℕ))) : Type 0 where
   pub long : length new ≡ length old
   pub here : slice_index_or (bytes_in new) j [] ≡ left_if j apart a (slice_index_or (bytes_in old) j [])
   pub others : (k : ℕ) → k ≢ j → slice_index_or (bytes_in new) k [] ≡ slice_index_or (bytes_in old) k []
 
--- the same if it is drawn, else what was left before
+-- in each column, what is left of the text once a line is drawn, if it is, else what was left before
 abbrev pub AreCutIf : Bool → List Owner → List Owner → List (Bor (List ℕ)) → List (Bor (List ℕ)) → Type 0
 AreCutIf drawn above below old new =
     (j : ℕ) → j < length old → slice_index_or (bytes_in new) j [] ≡ (if drawn then left_of j (slice_index_or above (j + 1) None) (slice_index_or below (j + 1) None) (slice_index_or (bytes_in old) j []) else slice_index_or (bytes_in old) j [])

@@ -1,6 +1,6 @@
 -- The widths of columns and the heights of rows, said once for both.
-use Rattle.std.specs.Prelude.{◌+◌, ◌-◌, ◌/◌, ◌%◌, ◌==◌, ◌&&◌, if◌then◌else◌, ℕ, List, [], ◌∷◌, length, slice_index_or}
-use Rattle.std.specs.List.{fold}
+use Rattle.std.specs.Prelude.{◌≡◌, ◌+◌, ◌-◌, ◌/◌, ◌%◌, ◌<◌, ◌==◌, ◌&&◌, if◌then◌else◌, ℕ, List, [], ◌∷◌, length, slice_index_or}
+use Rattle.std.specs.List.{AllByRecursion, fold}
 use Rattle.std.specs.Option.{unwrap_or}
 use Rattle.tabled_draw.specs.Each.{by_number, each, is_in_range, largest, total}
 use Rattle.tabled_draw.specs.Owners.{owner_in}
@@ -56,7 +56,7 @@ grown_for axis style g sizes e = grown_sizes axis (border axis style g) sizes (l
 abbrev pub own_of : Axis → Grid (List ℕ) → Rectangle → Position → ℕ
 own_of axis g o p = if same_place o.first p && (lines_in axis o.size == 1) then asks axis (text_of_cell g p) else 0
 
--- the same, by the merged cells
+-- what it asks of them, by the merged cells
 abbrev pub own : Axis → Grid (List ℕ) → List Rectangle → Position → ℕ
 own axis g es p = own_of axis g (owner_in es p) p
 
@@ -64,14 +64,26 @@ own axis g es p = own_of axis g (owner_in es p) p
 abbrev pub own_sizes : Axis → Grid (List ℕ) → List Rectangle → List ℕ
 own_sizes axis g es = each (count_along axis g) (λ k. largest (count_along (across axis) g) (λ i. own axis g es (place_in axis k i)) ∷ [])
 
--- the merged cells in the order in which rows or columns grow for them: those that take the fewest come first, of these
--- those that begin first
-abbrev pub in_order : Axis → Grid (List ℕ) → List Rectangle → List Rectangle
-in_order axis g es = by_number (λ e. lines_in axis e.size) (count_along axis g + 1) (by_number (λ e. line_of axis e.first) (count_along axis g) es)
+-- merged cells that take fewer than m rows, or columns, and begin in the first n: those that take the fewest come first,
+-- of these those that begin first
+abbrev pub in_order_below : Axis → ℕ → ℕ → List Rectangle → List Rectangle
+in_order_below axis m n es = by_number (λ e. lines_in axis e.size) m (by_number (λ e. line_of axis e.first) n es)
 
--- the heights of rows or the widths of columns: these, grown by one merged cell after another
+-- these are merged cells in that order
+abbrev pub IsInOrder : Axis → List Rectangle → List Rectangle → Type 0
+IsInOrder axis es order = (m n : ℕ) → AllByRecursion (λ (e : Rectangle). (lines_in axis e.size < m) × (line_of axis e.first < n)) es → order ≡ in_order_below axis m n es
+
+-- the merged cells in the order in which rows or columns grow for them
+abbrev pub in_order : Axis → Grid (List ℕ) → List Rectangle → List Rectangle
+in_order axis g es = in_order_below axis (count_along axis g + 1) (count_along axis g) es
+
+-- sizes, grown by one merged cell after another
+abbrev pub grown : Axis → Style → Grid (List ℕ) → List Rectangle → List ℕ → List ℕ
+grown axis style g es sizes = fold (grown_for axis style g) sizes (in_order axis g es)
+
+-- the heights of rows or the widths of columns
 unfoldable pub sizes : Axis → Style → Grid (List ℕ) → List Rectangle → List ℕ
-sizes axis style g es = fold (grown_for axis style g) (own_sizes axis g es) (in_order axis g es)
+sizes axis style g es = grown axis style g es (own_sizes axis g es)
 
 -- the widths of columns
 abbrev pub widths : Style → Grid (List ℕ) → List Rectangle → List ℕ

@@ -12,11 +12,11 @@ ascii = ASCII
 abbrev pub modern : Style
 modern = MODERN
 
--- the same with round corners, and one line between rows, below the first
+-- boxes of thin lines with round corners, and one line between rows, below the first
 abbrev pub rounded : Style
 rounded = ROUNDED
 
--- the same with sharp corners
+-- boxes of thin lines with sharp corners, and one line between rows, below the first
 abbrev pub sharp : Style
 sharp = SHARP
 

@@ -1,7 +1,11 @@
 -- How wide a picture is.
-use Rattle.std.specs.Prelude.{◌+◌, ℕ, List}
+use Rattle.std.specs.Prelude.{◌≡◌, ◌+◌, ℕ, List}
+use Rattle.std.specs.List.{AllByRecursion}
 use Rattle.tabled_draw.specs.Borders.{border}
-use Rattle.tabled_draw.specs.Picture.{left}
+use Rattle.tabled_draw.specs.Marks.{IsFine}
+use Rattle.tabled_draw.specs.Picture.{left, picture}
+use Rattle.tabled_draw.specs.Texts.{text_width}
+use Rattle.tabled_draw.specs.declared.alignment.Alignment.{Alignment}
 use Rattle.tabled_draw.specs.declared.style.Style.{Style}
 use Rattle.tabled_grid.specs.Fitting.{fitting}
 use Rattle.tabled_grid.specs.Grid.{Grid}
@@ -13,6 +17,10 @@ use Rattle.tabled_grid.specs.declared.records.axis.Axis.TheVariants.{Columns}
 abbrev pub line_columns : Style → Grid (List ℕ) → List Rectangle → ℕ
 line_columns style g es = left style g es g.columns + border Columns style g g.columns
 
--- the same with those of a table's merged cells that fit it
+-- the columns of each line that is drawn, where of a table's merged cells those count that fit it
 unfoldable pub picture_width : Style → Grid (List ℕ) → SpanMap → ℕ
 picture_width style g m = line_columns style g (fitting g.rows g.columns (rectangles m))
+
+-- each line that is drawn takes these columns, in a style whose characters take one column
+abbrev pub HasItsWidth : Style → List Alignment → Grid (List ℕ) → SpanMap → Type 0
+HasItsWidth style aligns g m = IsFine style → AllByRecursion (λ line. text_width line ≡ picture_width style g m) (picture style aligns g (fitting g.rows g.columns (rectangles m)))

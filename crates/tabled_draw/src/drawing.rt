@@ -1,26 +1,23 @@
 //! Tables that are laid out.
 
-ghost use Rattle.std.specs.Prelude.{◌≡◌, ◌+◌, ◌<◌, IfOk, IsTrue, OnOk, length, slice_index_or};
+ghost use Rattle.std.specs.Prelude.{◌≡◌, ◌+◌, ◌<◌, IfOk, IsTrue, OnOk, length};
 ghost use Rattle.tabled_draw.specs.Bands.{HasRoom, IsBand, IsSheet};
 ghost use Rattle.tabled_draw.specs.Borders.{is_drawn};
-ghost use Rattle.tabled_draw.specs.Laid.{AreEdges, IsLaidOut};
 ghost use Rattle.tabled_draw.specs.Lines.{AreUnmerged, EndInside, begun};
-ghost use Rattle.tabled_draw.specs.OwnerRows.{IsOwnerRow, count_before};
-ghost use Rattle.tabled_draw.specs.Picture.{drawn, drawn_with, picture_text, row_text};
-ghost use Rattle.tabled_draw.specs.Rests.{AreBegun, AreCutIf, AreLeftAbove, border_of_rests};
-ghost use Rattle.tabled_draw.specs.Sent.{Draws};
-ghost use Rattle.tabled_draw.specs.Sizes.{heights};
+ghost use Rattle.tabled_draw.specs.Looks.{drawn_in};
+ghost use Rattle.tabled_draw.specs.Pens.{Draws};
+ghost use Rattle.tabled_draw.specs.Picture.{drawn};
+ghost use Rattle.tabled_draw.specs.Rests.{AreBegun, AreCutIf};
+ghost use Rattle.tabled_draw.specs.Sheets.{border_on, picture_on, row_on};
 ghost use Rattle.tabled_grid.specs.Grid.{IsInside, map_grid};
-ghost use Rattle.tabled_grid.specs.Fitting.{Fits};
-ghost use Rattle.tabled_grid.specs.Spans.{AreSpanSizes, rectangles};
 
 use crate::band::Band;
 use crate::borders::is_drawn;
 use crate::layout::{Layout, layout_of};
 use crate::lines::{line_between, write_border_line, write_known_line, write_row_line};
 use crate::look::Look;
-use crate::marks::run_of;
 use crate::owners::{Owner, are_unmerged, clear, write_owners};
+use crate::pen::{Pen, run_of};
 use crate::sheet::Sheet;
 use crate::style::Style;
 use std::alloc::{AllocError, Global};
@@ -61,7 +58,7 @@ where
 {
     ghost use Rattle.std.specs.Prelude.{ℕ, List};
     ghost use Rattle.tabled_draw.specs.Picture.{picture_bytes};
-    ghost use Rattle.tabled_draw.specs.Laid.{IsLaidOut};
+    ghost use Rattle.tabled_draw.specs.Drawings.{IsLaidOut};
     ghost use Rattle.tabled_grid.specs.Spans.{rectangles};
     ghost use Rattle.tabled_grid.specs.Grid.{map_grid};
 
@@ -69,7 +66,7 @@ where
 
     ghost view = { λ a. picture_bytes a.look.style a.look.alignments.now (map_grid R.Cell.text_of (R.grid a.records.now)) (rectangles a.spans) };
 
-    ghost invariant = { λ a. R.is_well_formed a.records.now × IsLaidOut a.look.style (map_grid R.Cell.text_of (R.grid a.records.now)) a.spans a.layout.edges.items a.layout.heights.items a.layout.above.items a.layout.here.items a.rests.items a.level.items a.between.items a.held };
+    ghost invariant = { λ a. R.is_well_formed a.records.now × IsLaidOut (map_grid R.Cell.text_of (R.grid a.records.now)) a };
 }
 
 impl<'a, R> Drawing<'a, R>
@@ -83,7 +80,6 @@ where
     pub fn new(alloc: Global, records: &'a R, cfg: &SpannedConfig) -> Result<Self, AllocError>
         requires well { R.is_well_formed records.now }
         ensures drawn { IfOk result (λ drawing. drawing ≡ drawn (map_grid R.Cell.text_of (R.grid records.now)) cfg.now) }
-        ensures sizes { AreSpanSizes cfg.now }
     {
         Drawing::with_look(alloc, records, cfg, &Look::new(Style::ascii()))
     }
@@ -99,15 +95,13 @@ where
         look: &Look<'a>,
     ) -> Result<Self, AllocError>
         requires well { R.is_well_formed records.now }
-        ensures drawn { IfOk result (λ drawing. drawing ≡ drawn_with look.now.style look.now.alignments.now (map_grid R.Cell.text_of (R.grid records.now)) cfg.now) }
-        ensures sizes { AreSpanSizes cfg.now }
+        ensures drawn { IfOk result (λ drawing. drawing ≡ drawn_in look.now (map_grid R.Cell.text_of (R.grid records.now)) cfg.now) }
     {
         let rows = records.count_rows();
         let columns = records.count_columns();
         let spans = cfg.fitting(alloc, rows, columns)?;
         let layout = layout_of(alloc, records, &spans, &look.style)?;
         let rests = vec![in alloc; ""; columns]?;
-        let mut held = Held::new(alloc)?;
         let level = run_of(alloc, look.style.horizontal)?;
         let sheet = Sheet {
             look: *look,
@@ -118,7 +112,8 @@ where
             level: &level,
             between: &[],
         };
-        let between = line_between(alloc, &mut held, &sheet)?;
+        let between = line_between(alloc, &sheet)?;
+        let held = Held::new(alloc)?;
         Ok(Drawing {
             records,
             spans,
@@ -143,7 +138,7 @@ where
             rests,
             level,
             between,
-            mut held,
+            held,
         } = self;
         let Layout {
             edges,
@@ -169,17 +164,18 @@ where
             next: 0,
             rests,
         };
-        write_lines(writer, &mut held, records, &spans, &sheet, &mut band)?;
-        held.send(writer);
-        held.take_outcome()?;
+        let mut pen = Pen::new(writer, held);
+        write_lines(&mut pen, records, &spans, &sheet, &mut band)?;
+        let written = pen.finish()?;
+        // No effect: the proof reads here what the writer got.
+        let _ = &*written;
         Ok(())
     }
 }
 
 /// Writes the lines of a table with cells.
 fn write_lines<'a, W, R>(
-    writer: &mut W,
-    held: &mut Held,
+    pen: &mut Pen<'_, W>,
     records: &'a R,
     spans: &SpannedConfig,
     sheet: &Sheet<'_>,
@@ -191,21 +187,20 @@ where
     R::Cell: CellText,
     requires well { R.is_well_formed records.now }
     requires sheet { IsSheet (map_grid R.Cell.text_of (R.grid records.now)) spans.now sheet.now }
-    requires room { HasRoom (R.grid records.now).columns band.old.above.items band.old.here.items band.old.rests.items }
+    requires room { HasRoom (R.grid records.now).columns band.old }
     requires next { band.old.next ≡ 0 }
     requires high { 0 < (R.grid records.now).rows }
     requires wide { 0 < (R.grid records.now).columns }
-    ensures { OnOk result (Draws (W.contents writer.old) held.old (W.contents writer.new) held.new (picture_text sheet.now.look.style sheet.now.look.alignments.now (map_grid R.Cell.text_of (R.grid records.now)) spans.now)) }
+    ensures { OnOk result (Draws W.contents pen.old pen.new (picture_on sheet.now (map_grid R.Cell.text_of (R.grid records.now)) spans.now)) }
 {
     clear(&mut band.above);
     for i in 0..sheet.rows {
-        write_row(writer, held, records, spans, sheet, i, band)?;
+        write_row(pen, records, spans, sheet, i, band)?;
     }
     clear(&mut band.here);
     let is_unmerged = spans.anchors().is_empty();
     write_border(
-        writer,
-        held,
+        pen,
         sheet,
         sheet.rows,
         is_unmerged,
@@ -218,8 +213,7 @@ where
 
 /// Writes the line above row i and the lines in it, and goes on to the line below it.
 fn write_row<'a, W, R>(
-    writer: &mut W,
-    held: &mut Held,
+    pen: &mut Pen<'_, W>,
     records: &'a R,
     spans: &SpannedConfig,
     sheet: &Sheet<'_>,
@@ -234,15 +228,14 @@ where
     requires sheet { IsSheet (map_grid R.Cell.text_of (R.grid records.now)) spans.now sheet.now }
     requires row { i < (R.grid records.now).rows }
     requires wide { 0 < (R.grid records.now).columns }
-    requires band { IsBand sheet.now.look.style (map_grid R.Cell.text_of (R.grid records.now)) spans.now i band.old.above.items band.old.here.items band.old.next band.old.rests.items }
-    ensures band { OnOk result (IsBand sheet.now.look.style (map_grid R.Cell.text_of (R.grid records.now)) spans.now (i + 1) band.new.above.items band.new.here.items band.new.next band.new.rests.items) }
-    ensures draws { OnOk result (Draws (W.contents writer.old) held.old (W.contents writer.new) held.new (row_text sheet.now.look.style sheet.now.look.alignments.now (map_grid R.Cell.text_of (R.grid records.now)) spans.now i)) }
+    requires band { IsBand sheet.now.look.style (map_grid R.Cell.text_of (R.grid records.now)) spans.now i band.old }
+    ensures band { OnOk result (IsBand sheet.now.look.style (map_grid R.Cell.text_of (R.grid records.now)) spans.now (i + 1) band.new) }
+    ensures draws { OnOk result (Draws W.contents pen.old pen.new (row_on sheet.now (map_grid R.Cell.text_of (R.grid records.now)) spans.now i)) }
 {
     band.next = write_owners(records, spans, band.next, i, &band.above, &mut band.here);
     let is_unmerged = are_unmerged(spans, &band.above, &band.here, i);
     write_border(
-        writer,
-        held,
+        pen,
         sheet,
         i,
         is_unmerged,
@@ -252,7 +245,7 @@ where
     )?;
     begin(records, i, &band.here, &mut band.rests);
     for _y in 0..sheet.heights[i] {
-        write_row_line(writer, held, sheet, &band.here, &mut band.rests)?;
+        write_row_line(pen, sheet, &band.here, &mut band.rests)?;
     }
     mem::swap(&mut band.above, &mut band.here);
     Ok(())
@@ -260,8 +253,7 @@ where
 
 /// Writes the line above a row, or below the last one, if it is drawn. It may be known that no cells are merged.
 fn write_border<'a, W: Write>(
-    writer: &mut W,
-    held: &mut Held,
+    pen: &mut Pen<'_, W>,
     sheet: &Sheet<'_>,
     i: usize,
     is_unmerged: bool,
@@ -275,17 +267,17 @@ fn write_border<'a, W: Write>(
     requires inside { EndInside (length rests.old.items) above.now }
     requires unmerged { IsTrue is_unmerged → AreUnmerged sheet.now.rows (length rests.old.items) i above.now below.now }
     ensures long { length rests.new.items ≡ length rests.old.items }
-    ensures draws { OnOk result (Draws (W.contents writer.old) held.old (W.contents writer.new) held.new (border_of_rests sheet.now.look.style sheet.now.look.alignments.now sheet.now.rows i sheet.now.edges.now above.now below.now rests.old.items)) }
+    ensures draws { OnOk result (Draws W.contents pen.old pen.new (border_on sheet.now i above.now below.now rests.old.items)) }
     ensures rests { OnOk result (AreCutIf (is_drawn sheet.now.look.style.rows sheet.now.rows i) above.now below.now rests.old.items rests.new.items) }
 {
     if !is_drawn(sheet.look.style.rows, sheet.rows, i) {
         return Ok(());
     }
     if is_unmerged {
-        write_known_line(writer, held, sheet, i)?;
+        write_known_line(pen, sheet, i)?;
         return Ok(());
     }
-    write_border_line(writer, held, sheet, above, below, rests)?;
+    write_border_line(pen, sheet, above, below, rests)?;
     Ok(())
 }
 

@@ -1,16 +1,12 @@
 //! Rows and columns that grow for the texts of merged cells.
 
-ghost use Rattle.std.specs.Prelude.{◌≡◌, ◌+◌, ◌<◌, ◌≤◌, ℕ, IfOk, OnOk, length};
-ghost use Rattle.std.specs.List.{AllByRecursion, fold};
-ghost use Rattle.tabled_draw.specs.Each.{by_number};
-ghost use Rattle.tabled_draw.specs.Sizes.{grown_sizes, grown_for, in_order, room};
+ghost use Rattle.std.specs.Prelude.{◌≡◌, ◌+◌, ◌≤◌, IfOk, OnOk, length};
+ghost use Rattle.tabled_draw.specs.Sizes.{IsInOrder, grown, grown_sizes, room};
 ghost use Rattle.tabled_draw.specs.Borders.{line_size};
 ghost use Rattle.tabled_grid.specs.Along.{count_along};
-ghost use Rattle.tabled_grid.specs.Axis.{line_of, lines_in};
 ghost use Rattle.tabled_grid.specs.Grid.{map_grid};
 ghost use Rattle.tabled_grid.specs.Fitting.{Fits};
 ghost use Rattle.tabled_grid.specs.Spans.{rectangles};
-ghost use Rattle.tabled_grid.specs.declared.config.rectangle.Rectangle.{Rectangle};
 
 use crate::borders::{line_size, lines_around, pad};
 use crate::style::{Lines, Style};
@@ -35,7 +31,7 @@ where
     requires fits { Fits spans.now ((R.grid records.now).rows) ((R.grid records.now).columns) }
     requires long { length sizes.old.items ≡ count_along axis (R.grid records.now) }
     ensures long { OnOk result (length sizes.new.items ≡ count_along axis (R.grid records.now)) }
-    ensures grown { OnOk result (sizes.new.items ≡ fold (grown_for axis style.now (map_grid R.Cell.text_of (R.grid records.now))) sizes.old.items (in_order axis (map_grid R.Cell.text_of (R.grid records.now)) (rectangles spans.now))) }
+    ensures grown { OnOk result (sizes.new.items ≡ grown axis style.now (map_grid R.Cell.text_of (R.grid records.now)) (rectangles spans.now) sizes.old.items) }
 {
     let rectangles = put_in_order(alloc, spans.anchors(), axis)?;
     let order = rectangles.as_slice();
@@ -55,7 +51,7 @@ fn put_in_order(
     rectangles: &[Rectangle],
     axis: Axis,
 ) -> Result<Vec<Rectangle>, AllocError>
-    ensures ordered { IfOk result (λ order. (m n : ℕ) → AllByRecursion (λ (e : Rectangle). (lines_in axis e.size < m) × (line_of axis e.first < n)) rectangles.now → order.items ≡ by_number (λ e. lines_in axis e.size) m (by_number (λ e. line_of axis e.first) n rectangles.now)) }
+    ensures { IfOk result (λ order. IsInOrder axis rectangles.now order.items) }
 {
     let mut order = Vec::from_slice(alloc, rectangles)?;
     order.sort_by_key(|rectangle| axis.line_of(rectangle.first))?;

@@ -1,22 +1,18 @@
 //! Laws of pictures. Each is the contract of a function that does nothing.
 
-ghost use Rattle.std.specs.Prelude.{◌≡◌, ◌+◌, ◌⊎◌, ℕ, List, Some, [], encode_utf8_all, length, map};
-ghost use Rattle.std.specs.List.{AllByRecursion, sum};
+ghost use Rattle.std.specs.Prelude.{◌≡◌, ◌+◌, ℕ, List, Some, length, map};
 ghost use Rattle.tabled_draw.specs.Markdown.{escaped, markdown, markdown_lines, read_cell};
 ghost use Rattle.tabled_draw.specs.Marks.{IsFine};
-ghost use Rattle.tabled_draw.specs.Overall.{AreEquallyWide, AreNoControls, AreNoLargerThanAsked, HoldsOfPictures, drawn_lines};
-ghost use Rattle.tabled_draw.specs.Picture.{drawn_with, picture, picture_bytes, with_newlines};
-ghost use Rattle.tabled_draw.specs.Sizes.{heights};
+ghost use Rattle.tabled_draw.specs.Overall.{AreDrawnAlike, AreEquallyWide, AreNoLargerThanAsked, HasAsManyLines, HasNoControls, HasNoLinesWithoutCells, HoldsOfAll, HoldsOfPictures, IsDrawnWhole};
+ghost use Rattle.tabled_draw.specs.Picture.{bytes_of_lines};
 ghost use Rattle.tabled_draw.specs.Standing.{AreSeenAlike, GoOn, HasBorders, HasPlainBorders, ShowsAllTexts};
 ghost use Rattle.tabled_draw.specs.Styles.{styles};
 ghost use Rattle.tabled_draw.specs.declared.alignment.Alignment.{Alignment};
-ghost use Rattle.tabled_draw.specs.declared.style.Style.{Style};
 ghost use Rattle.tabled_draw.specs.declared.style.TheConstants.Style.{ASCII, ASCII_ROUNDED, BLANK, DOTS, EMPTY, EXTENDED, MARKDOWN, MODERN, NAMES, PSQL, RE_STRUCTURED_TEXT, ROUNDED, SHARP};
 ghost use Rattle.tabled_grid.specs.Entity.{place};
 ghost use Rattle.tabled_grid.specs.Fitting.{Fits, fitting, keep_fitting};
 ghost use Rattle.tabled_grid.specs.Grid.{Grid, IsInside};
-ghost use Rattle.tabled_grid.specs.Spans.{AreSpanSizes, SpanMap, rectangles};
-ghost use Rattle.tabled_grid.specs.declared.config.rectangle.Rectangle.{Rectangle};
+ghost use Rattle.tabled_grid.specs.Spans.{SpanMap, rectangles};
 
 pub use crate::width::lines_take_the_width_of_their_picture;
 
@@ -28,8 +24,8 @@ pub fn lines_are_equally_wide()
 /// A picture has a line for each line of a row, and one for each line around the rows that is drawn; that of a table
 /// without cells has none.
 pub fn pictures_have_as_many_lines()
-    ensures some { (style : Style) (aligns : List Alignment) (g : Grid (List ℕ)) (es : List Rectangle) → IsInside g (place 0 0) → length (picture style aligns g es) ≡ sum (heights style g es) + drawn_lines style g }
-    ensures none { (style : Style) (aligns : List Alignment) (g : Grid (List ℕ)) (es : List Rectangle) → (g.rows ≡ 0) ⊎ (g.columns ≡ 0) → picture style aligns g es ≡ [] }
+    ensures some { HoldsOfAll HasAsManyLines }
+    ensures none { HoldsOfAll HasNoLinesWithoutCells }
 {}
 
 /// The characters of each style are one column wide, join no others, and are no control characters.
@@ -61,7 +57,7 @@ pub fn rows_and_columns_are_no_larger_than_asked()
 
 /// No control character stands in a line of a picture: no text ends a line or sends an escape sequence.
 pub fn no_control_character_is_drawn()
-    ensures { (style : Style) (aligns : List Alignment) (g : Grid (List ℕ)) (es : List Rectangle) → IsFine style → AllByRecursion AreNoControls (picture style aligns g es) }
+    ensures { HoldsOfAll HasNoControls }
 {}
 
 /// Each line of the text of each cell that no merged cell hides stands whole at the cell's place, with nothing but
@@ -91,13 +87,13 @@ pub fn borders_are_plain_by_default()
 
 /// Of two tables of a shape whose texts differ only where merged cells hide them, the pictures are the same.
 pub fn hidden_texts_do_not_matter()
-    ensures { (style : Style) (aligns : List Alignment) (g h : Grid (List ℕ)) (m : SpanMap) → AreSpanSizes m → AreSeenAlike g h (fitting g.rows g.columns (rectangles m)) → drawn_with style aligns g m ≡ drawn_with style aligns h m }
+    ensures { (g h : Grid (List ℕ)) (m : SpanMap) → AreSeenAlike g h (fitting g.rows g.columns (rectangles m)) → AreDrawnAlike g m h m }
 {}
 
 /// Where all merged cells fit their table, the picture is that with all; where some don't, that without these.
 pub fn misfits_leave_no_trace()
-    ensures all { (style : Style) (aligns : List Alignment) (g : Grid (List ℕ)) (m : SpanMap) → Fits m g.rows g.columns → drawn_with style aligns g m ≡ picture_bytes style aligns g (rectangles m) }
-    ensures some { (style : Style) (aligns : List Alignment) (g : Grid (List ℕ)) (m : SpanMap) → AreSpanSizes m → drawn_with style aligns g m ≡ drawn_with style aligns g (keep_fitting g.rows g.columns m) }
+    ensures all { (g : Grid (List ℕ)) (m : SpanMap) → Fits m g.rows g.columns → IsDrawnWhole g m }
+    ensures some { (g : Grid (List ℕ)) (m : SpanMap) → AreDrawnAlike g m g (keep_fitting g.rows g.columns m) }
 {}
 
 /// Any text is read back from what a cell of Markdown has of it: its bars and newlines end no cell, and a backslash or a
@@ -108,6 +104,6 @@ pub fn texts_of_markdown_are_read_back()
 
 /// Markdown has a line for each row, whatever stands in its texts, and one below the first row.
 pub fn rows_are_lines_of_markdown()
-    ensures lines { (aligns : List Alignment) (g : Grid (List ℕ)) (m : SpanMap) → markdown aligns g m ≡ encode_utf8_all (with_newlines (markdown_lines aligns g m)) }
+    ensures lines { (aligns : List Alignment) (g : Grid (List ℕ)) (m : SpanMap) → markdown aligns g m ≡ bytes_of_lines (markdown_lines aligns g m) }
     ensures rows { (aligns : List Alignment) (g : Grid (List ℕ)) (m : SpanMap) → IsInside g (place 0 0) → length (markdown_lines aligns g m) ≡ g.rows + 1 }
 {}

@@ -1,12 +1,11 @@
 //! How wide columns and how high rows are.
 
-ghost use Rattle.std.specs.Prelude.{◌≡◌, ◌+◌, ◌<◌, ℕ, IfOk, length, slice_index_or};
+ghost use Rattle.std.specs.Prelude.{◌≡◌, ◌+◌, ◌<◌, IfOk, length};
 ghost use Rattle.tabled_grid.specs.Spans.{rectangles};
-ghost use Rattle.tabled_draw.specs.Borders.{line_size};
-ghost use Rattle.tabled_draw.specs.Laid.{AreEdges};
+ghost use Rattle.tabled_draw.specs.Laid.{AreEdgesOf, IsLayout};
 ghost use Rattle.tabled_draw.specs.Measured.{Measured, raised};
 ghost use Rattle.tabled_draw.specs.OwnerRows.{IsOwnerRow};
-ghost use Rattle.tabled_draw.specs.Sizes.{heights, own_sizes, start_of};
+ghost use Rattle.tabled_draw.specs.Sizes.{own_sizes};
 ghost use Rattle.tabled_grid.specs.Grid.{IsInside, map_grid};
 ghost use Rattle.tabled_grid.specs.Fitting.{Fits};
 ghost use Rattle.tabled_grid.specs.declared.records.axis.Axis.TheVariants.{Rows, Columns};
@@ -44,10 +43,7 @@ where
     R::Cell: CellText,
     requires well { R.is_well_formed records.now }
     requires fits { Fits spans.now ((R.grid records.now).rows) ((R.grid records.now).columns) }
-    ensures edges { IfOk result (λ layout. AreEdges style.now (map_grid R.Cell.text_of (R.grid records.now)) spans.now layout.edges.items) }
-    ensures heights { IfOk result (λ layout. layout.heights.items ≡ heights style.now (map_grid R.Cell.text_of (R.grid records.now)) (rectangles spans.now)) }
-    ensures above { IfOk result (λ layout. length layout.above.items ≡ (R.grid records.now).columns + 2) }
-    ensures here { IfOk result (λ layout. length layout.here.items ≡ (R.grid records.now).columns + 2) }
+    ensures { IfOk result (λ layout. IsLayout style.now (map_grid R.Cell.text_of (R.grid records.now)) spans.now layout) }
 {
     let columns = records.count_columns();
     let mut above = owner_row(alloc, columns)?;
@@ -164,8 +160,7 @@ where
 
 /// Where the left edge of each column stands, and the last edge.
 fn edges(alloc: Global, lines: Lines, widths: &[usize]) -> Result<Vec<usize>, AllocError>
-    ensures long { IfOk result (λ edges. length edges.items ≡ length widths.now + 1) }
-    ensures each { IfOk result (λ edges. (k : ℕ) → k < length widths.now + 1 → slice_index_or edges.items k 0 ≡ start_of Columns (line_size lines (length widths.now)) widths.now k) }
+    ensures { IfOk result (λ edges. AreEdgesOf lines widths.now edges.items) }
 {
     let mut edges = Vec::new(alloc);
     let mut edge = 0;

@@ -1,16 +1,18 @@
 //! The lines of a picture.
 
-ghost use Rattle.std.specs.Prelude.{◌≡◌, ◌+◌, ◌<◌, [], IfOk, OnOk, Some, encode_utf8, false, length, slice_index_or, true};
+ghost use Rattle.std.specs.Prelude.{◌≡◌, ◌+◌, ◌<◌, [], IfOk, OnOk, Some, encode_utf8, encode_utf8_all, false, length, slice_index_or, true};
+ghost use Rattle.std.specs.Io.KnownBytes.{Appends};
 ghost use Rattle.tabled_draw.specs.Borders.{differ};
-ghost use Rattle.tabled_draw.specs.Lines.{EndInside, IsBetween, column_if, edge, left_inside, level, marked, text_inside, unmerged_line};
-ghost use Rattle.tabled_draw.specs.Rests.{AreCut, IsCutAt, bytes_in, line_of_rests};
-ghost use Rattle.tabled_draw.specs.Sent.{Draws};
+ghost use Rattle.tabled_draw.specs.Lines.{EndInside, IsBetween, left_inside, marked};
+ghost use Rattle.tabled_draw.specs.Pens.{Draws};
+ghost use Rattle.tabled_draw.specs.Rests.{AreCut, IsCutAt, bytes_in};
+ghost use Rattle.tabled_draw.specs.Sheets.{column_on, edge_on, level_on, line_on, text_on, unmerged_line_on};
 ghost use Rattle.tabled_grid.specs.declared.config.rectangle.Rectangle.{Rectangle};
 
 use crate::alignment::alignment_in;
 use crate::borders::{corner, differ, is_drawn, is_drawn_after, pad, size_if};
-use crate::marks::{draw, draw_known, draw_many};
 use crate::owners::Owner;
+use crate::pen::Pen;
 use crate::sheet::Sheet;
 use crate::texts::write_cell;
 use std::alloc::{AllocError, Global};
@@ -23,8 +25,7 @@ use tabled_held::Held;
 /// are left are cut by one.
 #[inline(always)]
 pub(crate) fn write_row_line<'a, W: Write>(
-    writer: &mut W,
-    held: &mut Held,
+    pen: &mut Pen<'_, W>,
     sheet: &Sheet<'_>,
     owners: &[Owner],
     rests: &mut Vec<&'a str>,
@@ -33,7 +34,7 @@ pub(crate) fn write_row_line<'a, W: Write>(
     requires columns { sheet.now.columns ≡ length rests.old.items }
     requires inside { EndInside (length rests.old.items) owners.now }
     ensures long { length rests.new.items ≡ length rests.old.items }
-    ensures draws { OnOk result (Draws (W.contents writer.old) held.old (W.contents writer.new) held.new (line_of_rests sheet.now.look.style sheet.now.look.alignments.now true sheet.now.edges.now owners.now owners.now rests.old.items)) }
+    ensures draws { OnOk result (Draws W.contents pen.old pen.new (line_on sheet.now true owners.now owners.now rests.old.items)) }
     ensures rests { OnOk result (AreCut owners.now owners.now rests.old.items rests.new.items) }
 {
     let lines = sheet.look.style.columns;
@@ -43,30 +44,27 @@ pub(crate) fn write_row_line<'a, W: Write>(
     let mut drawn = is_drawn(lines, columns, 0);
     for j in 0..columns {
         let owner = owners[j + 1];
-        write_upright(writer, held, sheet, upright, drawn, owners[j], owner);
-        rests[j] = write_inside(writer, held, sheet, drawn, j, owner, rests[j]);
+        write_upright(pen, sheet, upright, drawn, owners[j], owner);
+        rests[j] = write_inside(pen, sheet, drawn, j, owner, rests[j]);
         drawn = is_drawn_after(lines, j);
     }
     let drawn = is_drawn(lines, columns, columns);
     write_upright(
-        writer,
-        held,
+        pen,
         sheet,
         upright,
         drawn,
         owners[columns],
         owners[columns + 1],
     );
-    held.push(writer, b'\n');
-    held.take_outcome()?;
+    pen.end_line()?;
     Ok(())
 }
 
 /// Writes the line between two rows, or an outer one: a border between the owners above and below, and the texts of
 /// those that are one. Of each text that begins here, the lines that are left are cut by one.
 pub(crate) fn write_border_line<'a, W: Write>(
-    writer: &mut W,
-    held: &mut Held,
+    pen: &mut Pen<'_, W>,
     sheet: &Sheet<'_>,
     above: &[Owner],
     below: &[Owner],
@@ -77,7 +75,7 @@ pub(crate) fn write_border_line<'a, W: Write>(
     requires columns { sheet.now.columns ≡ length rests.old.items }
     requires inside { EndInside (length rests.old.items) above.now }
     ensures long { length rests.new.items ≡ length rests.old.items }
-    ensures draws { OnOk result (Draws (W.contents writer.old) held.old (W.contents writer.new) held.new (line_of_rests sheet.now.look.style sheet.now.look.alignments.now false sheet.now.edges.now above.now below.now rests.old.items)) }
+    ensures draws { OnOk result (Draws W.contents pen.old pen.new (line_on sheet.now false above.now below.now rests.old.items)) }
     ensures rests { OnOk result (AreCut above.now below.now rests.old.items rests.new.items) }
 {
     let lines = sheet.look.style.columns;
@@ -89,42 +87,38 @@ pub(crate) fn write_border_line<'a, W: Write>(
         let under = below[j + 1];
         let right = differ(over, under);
         write_corner(
-            writer,
-            held,
+            pen,
             sheet,
             drawn,
             (above[j], over),
             (below[j], under),
             (left, right),
         );
-        write_column(writer, held, sheet, drawn, right, j, over, rests);
+        write_column(pen, sheet, drawn, right, j, over, rests);
         drawn = is_drawn_after(lines, j);
         left = right;
     }
     let drawn = is_drawn(lines, columns, columns);
     let right = differ(above[columns + 1], below[columns + 1]);
     write_corner(
-        writer,
-        held,
+        pen,
         sheet,
         drawn,
         (above[columns], above[columns + 1]),
         (below[columns], below[columns + 1]),
         (left, right),
     );
-    held.push(writer, b'\n');
-    held.take_outcome()?;
+    pen.end_line()?;
     Ok(())
 }
 
 /// Writes the line above row i of a table without merged cells, or below its last row.
 fn write_unmerged_line<W: Write>(
-    writer: &mut W,
-    held: &mut Held,
+    pen: &mut Pen<'_, W>,
     sheet: &Sheet<'_>,
     i: usize,
 ) -> io::Result<()>
-    ensures draws { OnOk result (Draws (W.contents writer.old) held.old (W.contents writer.new) held.new (unmerged_line sheet.now.look.style sheet.now.rows sheet.now.columns i sheet.now.edges.now)) }
+    ensures draws { OnOk result (Draws W.contents pen.old pen.new (unmerged_line_on sheet.now i)) }
 {
     let lines = sheet.look.style.columns;
     let columns = sheet.columns;
@@ -134,78 +128,81 @@ fn write_unmerged_line<W: Write>(
     let mut mark = corner(&sheet.look.style, up, true, down, false);
     let mut drawn = is_drawn(lines, columns, 0);
     for j in 0..columns {
-        write_mark(writer, held, drawn, mark);
-        write_level(writer, held, sheet, drawn, j);
+        write_mark(pen, drawn, mark);
+        write_level(pen, sheet, drawn, j);
         mark = inner;
         drawn = is_drawn_after(lines, j);
     }
     let last = corner(&sheet.look.style, up, false, down, 0 < columns);
-    write_mark(writer, held, is_drawn(lines, columns, columns), last);
-    held.push(writer, b'\n');
-    held.take_outcome()?;
+    write_mark(pen, is_drawn(lines, columns, columns), last);
+    pen.end_line()?;
     Ok(())
 }
 
 /// The bytes of the line between two rows without merged cells. There are none where it is drawn once at most, or takes
 /// far more memory than the cells do.
-pub(crate) fn line_between(
-    alloc: Global,
-    held: &mut Held,
-    sheet: &Sheet<'_>,
-) -> Result<Vec<u8>, AllocError>
-    requires none { held.old.bytes ≡ [] }
-    ensures none { OnOk result (held.new.bytes ≡ []) }
-    ensures between { IfOk result (λ line. IsBetween sheet.now.look.style sheet.now.columns sheet.now.edges.now line.items) }
+pub(crate) fn line_between(alloc: Global, sheet: &Sheet<'_>) -> Result<Vec<u8>, AllocError>
+    ensures { IfOk result (λ line. IsBetween sheet.now.look.style sheet.now.columns sheet.now.edges.now line.items) }
 {
     let mut line = Vec::new(alloc);
     let cells = sheet.rows.saturating_mul(sheet.columns);
     if sheet.rows < 3 || !sheet.look.style.rows.inner || cells < sheet.edges[sheet.columns] / 8 {
         return Ok(line);
     }
-    if write_unmerged_line(&mut line, held, sheet, 1).is_err() {
-        return Err(AllocError);
-    }
-    held.send(&mut line);
-    if held.take_outcome().is_err() {
+    if write_first_line_between(&mut line, Held::new(alloc)?, sheet).is_err() {
         return Err(AllocError);
     }
     Ok(line)
 }
 
+/// Writes the line between the first two rows of a table without merged cells.
+fn write_first_line_between<W: Write>(
+    writer: &mut W,
+    held: Held,
+    sheet: &Sheet<'_>,
+) -> io::Result<()>
+    requires { held.bytes ≡ [] }
+    ensures { OnOk result (Appends (W.contents writer.old) (W.contents writer.new) (encode_utf8_all (unmerged_line_on sheet.now 1))) }
+{
+    let mut pen = Pen::new(writer, held);
+    write_unmerged_line(&mut pen, sheet, 1)?;
+    let written = pen.finish()?;
+    // No effect: the proof reads here what the writer got.
+    let _ = &*written;
+    Ok(())
+}
+
 /// Writes the line above row i of a table, or below its last row, at which no merged cell lies. Its bytes may be known,
 /// if it is between two rows.
 pub(crate) fn write_known_line<W: Write>(
-    writer: &mut W,
-    held: &mut Held,
+    pen: &mut Pen<'_, W>,
     sheet: &Sheet<'_>,
     i: usize,
 ) -> io::Result<()>
-    ensures draws { OnOk result (Draws (W.contents writer.old) held.old (W.contents writer.new) held.new (unmerged_line sheet.now.look.style sheet.now.rows sheet.now.columns i sheet.now.edges.now)) }
+    ensures draws { OnOk result (Draws W.contents pen.old pen.new (unmerged_line_on sheet.now i)) }
 {
     if sheet.between.is_empty() || i == 0 || sheet.rows <= i {
-        write_unmerged_line(writer, held, sheet, i)?;
+        write_unmerged_line(pen, sheet, i)?;
         return Ok(());
     }
-    held.write(writer, sheet.between);
-    held.take_outcome()?;
+    pen.send_line(sheet.between)?;
     Ok(())
 }
 
 /// Writes a character, if there is one and its line is drawn.
 #[inline(always)]
-fn write_mark<W: Write>(writer: &mut W, held: &mut Held, drawn: bool, mark: Option<char>)
-    ensures { Draws (W.contents writer.old) held.old (W.contents writer.new) held.new (marked drawn mark) }
+fn write_mark<W: Write>(pen: &mut Pen<'_, W>, drawn: bool, mark: Option<char>)
+    ensures { Draws W.contents pen.old pen.new (marked drawn mark) }
 {
     if drawn && let Some(mark) = mark {
-        draw(writer, held, mark);
+        pen.draw(mark);
     }
 }
 
 /// Writes the border between two places of a row, if there is one and its line is drawn. Its bytes are known.
 #[inline(always)]
 fn write_upright<W: Write>(
-    writer: &mut W,
-    held: &mut Held,
+    pen: &mut Pen<'_, W>,
     sheet: &Sheet<'_>,
     upright: &[u8],
     drawn: bool,
@@ -213,10 +210,10 @@ fn write_upright<W: Write>(
     after: Owner,
 )
     requires { upright.now ≡ encode_utf8 sheet.now.look.style.vertical }
-    ensures { Draws (W.contents writer.old) held.old (W.contents writer.new) held.new (edge sheet.now.look.style true drawn before after before after) }
+    ensures { Draws W.contents pen.old pen.new (edge_on sheet.now true drawn before after before after) }
 {
     if drawn && differ(before, after) {
-        draw_known(writer, held, sheet.look.style.vertical, upright);
+        pen.draw_known(sheet.look.style.vertical, upright);
     }
 }
 
@@ -224,8 +221,7 @@ fn write_upright<W: Write>(
 /// borders at its left and its right side.
 #[inline(always)]
 fn write_corner<W: Write>(
-    writer: &mut W,
-    held: &mut Held,
+    pen: &mut Pen<'_, W>,
     sheet: &Sheet<'_>,
     drawn: bool,
     above: (Owner, Owner),
@@ -234,7 +230,7 @@ fn write_corner<W: Write>(
 )
     requires left { beside.0 ≡ differ above.0 below.0 }
     requires right { beside.1 ≡ differ above.1 below.1 }
-    ensures { Draws (W.contents writer.old) held.old (W.contents writer.new) held.new (edge sheet.now.look.style false drawn above.0 above.1 below.0 below.1) }
+    ensures { Draws W.contents pen.old pen.new (edge_on sheet.now false drawn above.0 above.1 below.0 below.1) }
 {
     if !drawn {
         return;
@@ -242,14 +238,13 @@ fn write_corner<W: Write>(
     let up = differ(above.0, above.1);
     let down = differ(below.0, below.1);
     let corner = corner(&sheet.look.style, up, beside.1, down, beside.0);
-    write_mark(writer, held, drawn, corner);
+    write_mark(pen, drawn, corner);
 }
 
 /// Writes a border in a column, if the owners above and below are apart, else what their one shows.
 #[inline(always)]
 fn write_column<W: Write>(
-    writer: &mut W,
-    held: &mut Held,
+    pen: &mut Pen<'_, W>,
     sheet: &Sheet<'_>,
     drawn: bool,
     apart: bool,
@@ -260,39 +255,32 @@ fn write_column<W: Write>(
     requires end { (o : Rectangle) → owner ≡ Some o → o.first.col ≡ j → j + o.size.width < length sheet.now.edges.now }
     requires col { j + 1 < length sheet.now.edges.now }
     requires rest { j < length rests.old.items }
-    ensures draws { Draws (W.contents writer.old) held.old (W.contents writer.new) held.new (column_if sheet.now.look.style sheet.now.look.alignments.now drawn apart sheet.now.edges.now j owner (slice_index_or (bytes_in rests.old.items) j [])) }
+    ensures draws { Draws W.contents pen.old pen.new (column_on sheet.now drawn apart j owner (slice_index_or (bytes_in rests.old.items) j [])) }
     ensures rests { IsCutAt j apart owner rests.old.items rests.new.items }
 {
     if apart {
-        write_level(writer, held, sheet, drawn, j);
+        write_level(pen, sheet, drawn, j);
     } else {
-        write_crossing(writer, held, sheet, drawn, j, owner, rests);
+        write_crossing(pen, sheet, drawn, j, owner, rests);
     }
 }
 
 /// Writes the border in a column, as wide as its inside.
 #[inline(always)]
-fn write_level<W: Write>(writer: &mut W, held: &mut Held, sheet: &Sheet<'_>, drawn: bool, j: usize)
+fn write_level<W: Write>(pen: &mut Pen<'_, W>, sheet: &Sheet<'_>, drawn: bool, j: usize)
     requires col { j + 1 < length sheet.now.edges.now }
-    ensures { Draws (W.contents writer.old) held.old (W.contents writer.new) held.new (level sheet.now.look.style drawn sheet.now.edges.now j) }
+    ensures { Draws W.contents pen.old pen.new (level_on sheet.now drawn j) }
 {
     let inside = sheet.edges[j + 1]
         .saturating_sub(sheet.edges[j])
         .saturating_sub(size_if(drawn));
-    draw_many(
-        writer,
-        held,
-        sheet.look.style.horizontal,
-        sheet.level,
-        inside,
-    );
+    pen.draw_many(sheet.look.style.horizontal, sheet.level, inside);
 }
 
 /// Writes what an owner that lies above and below shows in a column.
 #[inline(never)]
 fn write_crossing<W: Write>(
-    writer: &mut W,
-    held: &mut Held,
+    pen: &mut Pen<'_, W>,
     sheet: &Sheet<'_>,
     drawn: bool,
     j: usize,
@@ -302,17 +290,16 @@ fn write_crossing<W: Write>(
     requires end { (o : Rectangle) → owner ≡ Some o → o.first.col ≡ j → j + o.size.width < length sheet.now.edges.now }
     requires col { j < length sheet.now.edges.now }
     requires rest { j < length rests.old.items }
-    ensures draws { Draws (W.contents writer.old) held.old (W.contents writer.new) held.new (text_inside sheet.now.look.alignments.now drawn sheet.now.edges.now j owner (slice_index_or (bytes_in rests.old.items) j [])) }
+    ensures draws { Draws W.contents pen.old pen.new (text_on sheet.now drawn j owner (slice_index_or (bytes_in rests.old.items) j [])) }
     ensures rests { IsCutAt j false owner rests.old.items rests.new.items }
 {
-    rests[j] = write_inside(writer, held, sheet, drawn, j, owner, rests[j]);
+    rests[j] = write_inside(pen, sheet, drawn, j, owner, rests[j]);
 }
 
 /// Writes what the owner of a column shows in it, and gives what is left there of a text.
 #[inline(always)]
 fn write_inside<'a, W: Write>(
-    writer: &mut W,
-    held: &mut Held,
+    pen: &mut Pen<'_, W>,
     sheet: &Sheet<'_>,
     drawn: bool,
     j: usize,
@@ -321,7 +308,7 @@ fn write_inside<'a, W: Write>(
 ) -> &'a str
     requires end { (o : Rectangle) → owner ≡ Some o → o.first.col ≡ j → j + o.size.width < length sheet.now.edges.now }
     requires col { j < length sheet.now.edges.now }
-    ensures draws { Draws (W.contents writer.old) held.old (W.contents writer.new) held.new (text_inside sheet.now.look.alignments.now drawn sheet.now.edges.now j owner rest.now) }
+    ensures draws { Draws W.contents pen.old pen.new (text_on sheet.now drawn j owner rest.now) }
     ensures rest { result.now ≡ left_inside j owner rest.now }
 {
     match owner {
@@ -329,13 +316,7 @@ fn write_inside<'a, W: Write>(
             let room = sheet.edges[j + size.width]
                 .saturating_sub(sheet.edges[j])
                 .saturating_sub(size_if(drawn) + pad(Axis::Columns));
-            write_cell(
-                writer,
-                held,
-                alignment_in(sheet.look.alignments, j),
-                rest,
-                room,
-            )
+            write_cell(pen, alignment_in(sheet.look.alignments, j), rest, room)
         }
         _ => rest,
     }

@@ -29,7 +29,7 @@ impl<'a> Look<'a> {
         }
     }
 
-    /// The same with alignments, by column, of which the last one counts for all columns behind it.
+    /// This style with alignments, by column, of which the last one counts for all columns behind it.
     pub fn align(self, alignments: &'a [Alignment]) -> Self
         ensures style { result.style ≡ self.entry.style }
         ensures alignments { result.alignments.now ≡ alignments.now }

@@ -1,15 +1,14 @@
 //! Tables as Markdown.
 
-ghost use Rattle.std.specs.Prelude.{◌≡◌, ◌++◌, ◌<◌, IfOk, IsTrue, OnOk, encode_utf8, length, map};
+ghost use Rattle.std.specs.Prelude.{◌≡◌, ◌++◌, ◌<◌, IfOk, IsTrue, OnOk, encode_utf8, length};
 ghost use Rattle.std.specs.Io.KnownBytes.{Appends};
 ghost use Rattle.std.specs.List.{flat_map};
 ghost use Rattle.std.specs.String.{string_bytes};
-ghost use Rattle.tabled_draw.specs.Markdown.{apart, cell_apart, escaped, escaped_byte, markdown, needs_backslash, row_apart, rows_apart};
-ghost use Rattle.tabled_grid.specs.Covers.{cover_of};
+ghost use Rattle.tabled_draw.specs.Markdown.{apart, escaped, escaped_byte, markdown, needs_backslash};
+ghost use Rattle.tabled_draw.specs.MarkdownTexts.{AreRowsApart, IsCellApart, IsRowApart, grid_of_texts};
 ghost use Rattle.tabled_grid.specs.Entity.{place};
 ghost use Rattle.tabled_grid.specs.Evenness.{AreWide};
 ghost use Rattle.tabled_grid.specs.Grid.{IsEven, IsInside, grid_of, map_grid, map_items};
-ghost use Rattle.tabled_grid.specs.Spans.{AreSpanSizes, SpanMap, rectangles};
 
 use crate::alignment::Alignment;
 use crate::drawing::Drawing;
@@ -40,8 +39,8 @@ where
     R: Records + ExactRecords + PeekableRecords,
     R::Cell: CellText,
     requires well { R.is_well_formed records.now }
-    ensures drawn { OnOk result (Appends (W.contents writer.old) (W.contents writer.new) (markdown alignments.now (map_grid R.Cell.text_of (R.grid records.now)) cfg.now)) }
-    ensures sizes { AreSpanSizes cfg.now }
+    ensures drawn { OnOk result (Appends (W.contents writer.old) (W.contents writer.new)
+        (markdown alignments.now (map_grid R.Cell.text_of (R.grid records.now)) cfg.now)) }
 {
     let texts = markdown_texts(alloc, records, cfg)?;
     let look = Look::new(Style::markdown()).align(alignments);
@@ -64,9 +63,8 @@ where
     R: Records + ExactRecords + PeekableRecords,
     R::Cell: CellText,
     requires well { R.is_well_formed records.now }
-    ensures texts { IfOk result (λ texts. map_grid string_bytes (grid_of (map_items texts.items)) ≡ apart (map_grid R.Cell.text_of (R.grid records.now)) cfg.now) }
+    ensures texts { IfOk result (λ texts. grid_of_texts (map_items texts.items) ≡ apart (map_grid R.Cell.text_of (R.grid records.now)) cfg.now) }
     ensures even { IfOk result (λ texts. IsEven (grid_of (map_items texts.items))) }
-    ensures sizes { AreSpanSizes cfg.now }
 {
     let rows = records.count_rows();
     let columns = records.count_columns();
@@ -89,7 +87,7 @@ where
     requires rows { cover.now.rows ≡ (R.grid records.now).rows }
     requires columns { cover.now.columns ≡ (R.grid records.now).columns }
     ensures wide { IfOk result (λ texts. AreWide (R.grid records.now).columns (map_items texts.items)) }
-    ensures texts { IfOk result (λ texts. (m : SpanMap) → cover.now ≡ cover_of m (R.grid records.now).rows (R.grid records.now).columns → map (map string_bytes) (map_items texts.items) ≡ rows_apart (map_grid R.Cell.text_of (R.grid records.now)) (rectangles m)) }
+    ensures texts { IfOk result (λ texts. AreRowsApart (map_grid R.Cell.text_of (R.grid records.now)) cover.now (map_items texts.items)) }
 {
     let mut texts = Vec::new(alloc);
     for i in 0..records.count_rows() {
@@ -114,7 +112,7 @@ where
     requires rows { cover.now.rows ≡ (R.grid records.now).rows }
     requires columns { cover.now.columns ≡ (R.grid records.now).columns }
     ensures long { IfOk result (λ row. length row.items ≡ (R.grid records.now).columns) }
-    ensures texts { IfOk result (λ row. (m : SpanMap) → cover.now ≡ cover_of m (R.grid records.now).rows (R.grid records.now).columns → map string_bytes row.items ≡ row_apart (map_grid R.Cell.text_of (R.grid records.now)) (rectangles m) i) }
+    ensures texts { IfOk result (λ row. IsRowApart (map_grid R.Cell.text_of (R.grid records.now)) cover.now i row.items) }
 {
     let mut row = Vec::new(alloc);
     for j in 0..records.count_columns() {
@@ -138,7 +136,7 @@ where
     requires first { cover.now.first ≡ place 0 0 }
     requires rows { cover.now.rows ≡ (R.grid records.now).rows }
     requires columns { cover.now.columns ≡ (R.grid records.now).columns }
-    ensures { IfOk result (λ text. (m : SpanMap) → cover.now ≡ cover_of m (R.grid records.now).rows (R.grid records.now).columns → string_bytes text ≡ cell_apart (map_grid R.Cell.text_of (R.grid records.now)) (rectangles m) pos) }
+    ensures { IfOk result (λ text. IsCellApart (map_grid R.Cell.text_of (R.grid records.now)) cover.now pos text) }
 {
     if cover.is_hidden(pos) {
         return Ok(String::new(alloc));

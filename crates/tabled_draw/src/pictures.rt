@@ -3,9 +3,9 @@
 ghost use Rattle.std.specs.Prelude.{◌≡◌, IfOk, OnOk};
 ghost use Rattle.std.specs.Io.KnownBytes.{Appends};
 ghost use Rattle.std.specs.String.{string_bytes};
-ghost use Rattle.tabled_draw.specs.Picture.{drawn, drawn_with};
+ghost use Rattle.tabled_draw.specs.Looks.{drawn_in};
+ghost use Rattle.tabled_draw.specs.Picture.{drawn};
 ghost use Rattle.tabled_grid.specs.Grid.{map_grid};
-ghost use Rattle.tabled_grid.specs.Spans.{AreSpanSizes};
 
 use crate::drawing::Drawing;
 use crate::look::Look;
@@ -29,7 +29,6 @@ where
     R::Cell: CellText,
     requires well { R.is_well_formed records.now }
     ensures drawn { OnOk result (Appends (W.contents writer.old) (W.contents writer.new) (drawn (map_grid R.Cell.text_of (R.grid records.now)) cfg.now)) }
-    ensures sizes { AreSpanSizes cfg.now }
 {
     let drawing = Drawing::new(alloc, records, cfg)?;
     drawing.write(writer)
@@ -50,8 +49,8 @@ where
     R: Records + ExactRecords + PeekableRecords,
     R::Cell: CellText,
     requires well { R.is_well_formed records.now }
-    ensures drawn { OnOk result (Appends (W.contents writer.old) (W.contents writer.new) (drawn_with look.now.style look.now.alignments.now (map_grid R.Cell.text_of (R.grid records.now)) cfg.now)) }
-    ensures sizes { AreSpanSizes cfg.now }
+    ensures drawn { OnOk result (Appends (W.contents writer.old) (W.contents writer.new)
+        (drawn_in look.now (map_grid R.Cell.text_of (R.grid records.now)) cfg.now)) }
 {
     let drawing = Drawing::with_look(alloc, records, cfg, look)?;
     drawing.write(writer)
@@ -66,7 +65,6 @@ where
     R::Cell: CellText,
     requires well { R.is_well_formed records.now }
     ensures drawn { IfOk result (λ picture. string_bytes picture ≡ drawn (map_grid R.Cell.text_of (R.grid records.now)) cfg.now) }
-    ensures sizes { AreSpanSizes cfg.now }
 {
     picture_with(alloc, records, cfg, &Look::new(Style::ascii()))
 }
@@ -84,8 +82,7 @@ where
     R: Records + ExactRecords + PeekableRecords,
     R::Cell: CellText,
     requires well { R.is_well_formed records.now }
-    ensures drawn { IfOk result (λ picture. string_bytes picture ≡ drawn_with look.now.style look.now.alignments.now (map_grid R.Cell.text_of (R.grid records.now)) cfg.now) }
-    ensures sizes { AreSpanSizes cfg.now }
+    ensures drawn { IfOk result (λ picture. string_bytes picture ≡ drawn_in look.now (map_grid R.Cell.text_of (R.grid records.now)) cfg.now) }
 {
     let drawing = Drawing::with_look(alloc, records, cfg, look)?;
     let mut bytes = Vec::new(alloc);

@@ -2,16 +2,16 @@
 
 ghost use Rattle.std.specs.Prelude.{◌≡◌, ◌-◌, IsTrue};
 ghost use Rattle.tabled_draw.specs.Alignments.{cell};
-ghost use Rattle.tabled_draw.specs.Sent.{Draws};
+ghost use Rattle.tabled_draw.specs.Pens.{Draws};
 ghost use Rattle.tabled_draw.specs.Lines.{ArePlain, IsLine, after_line, first_line};
 ghost use Rattle.tabled_draw.specs.Sizes.{asks};
-ghost use Rattle.tabled_draw.specs.Texts.{text_width, shown_character, shown_line, widest};
+ghost use Rattle.tabled_draw.specs.Texts.{text_width, shown_character, shown_line};
 ghost use Rattle.tabled_grid.specs.declared.records.axis.Axis.TheVariants.{Rows, Columns};
 
 use crate::alignment::{Alignment, indent};
+use crate::pen::Pen;
 use std::io::Write;
 use tabled_grid::config::Size;
-use tabled_held::Held;
 use unicode_width::UnicodeWidthStr;
 
 /// The character that is shown for one: for a control character another one, which can be seen.
@@ -42,7 +42,7 @@ fn is_plain(text: &str) -> bool
     are_plain(rest)
 }
 
-/// The same, of bytes.
+/// Says whether each byte is such a character.
 #[inline(always)]
 fn are_plain(bytes: &[u8]) -> bool
     ensures { IsTrue result → ArePlain bytes.now }
@@ -75,7 +75,7 @@ pub(crate) fn asked(text: &str) -> Size
     asked_by_lines(text)
 }
 
-/// The same, line by line.
+/// The size that a text asks, line by line.
 #[inline(never)]
 fn asked_by_lines(text: &str) -> Size
     ensures height { result.height ≡ asks Rows text.now }
@@ -94,23 +94,22 @@ fn asked_by_lines(text: &str) -> Size
 /// lines after it.
 #[inline(always)]
 pub(crate) fn write_cell<'a, W: Write>(
-    writer: &mut W,
-    held: &mut Held,
+    pen: &mut Pen<'_, W>,
     alignment: Alignment,
     text: &'a str,
     room: usize,
 ) -> &'a str
-    ensures draws { Draws (W.contents writer.old) held.old (W.contents writer.new) held.new (cell alignment room text.now 0) }
+    ensures draws { Draws W.contents pen.old pen.new (cell alignment room text.now 0) }
     ensures rest { result.now ≡ after_line text.now }
 {
     let (line, rest) = cut(text);
     let free = free_beside(&line, room);
     let before = indent(alignment, free);
-    held.push(writer, b' ');
-    held.repeat(writer, b' ', before);
-    write_shown(writer, held, line);
-    held.repeat(writer, b' ', free.saturating_sub(before));
-    held.push(writer, b' ');
+    pen.draw(' ');
+    pen.draw_blanks(before);
+    write_shown(pen, line);
+    pen.draw_blanks(free.saturating_sub(before));
+    pen.draw(' ');
     rest
 }
 
@@ -157,17 +156,15 @@ fn free_beside(line: &Line<'_>, room: usize) -> usize
 
 /// Writes a line as it is shown.
 #[inline(always)]
-fn write_shown<W: Write>(writer: &mut W, held: &mut Held, line: Line<'_>)
-    ensures { Draws (W.contents writer.old) held.old (W.contents writer.new) held.new (shown_line line.entry.text.now) }
+fn write_shown<W: Write>(pen: &mut Pen<'_, W>, line: Line<'_>)
+    ensures { Draws W.contents pen.old pen.new (shown_line line.entry.text.now) }
 {
     let line_bytes = line.text.as_bytes();
     if line.is_plain {
-        held.write(writer, line_bytes);
+        pen.send(line_bytes);
         return;
     }
     for c in line.text.chars() {
-        let c = shown(c);
-        let mut bytes = [0; 4];
-        held.write(writer, c.encode_utf8(&mut bytes).as_bytes());
+        pen.draw(shown(c));
     }
 }

@@ -1,16 +1,11 @@
 //! How wide pictures are.
 
 ghost use Rattle.std.specs.Prelude.{◌≡◌, ℕ, IfOk, List};
-ghost use Rattle.std.specs.List.{AllByRecursion};
-ghost use Rattle.tabled_draw.specs.Marks.{IsFine};
-ghost use Rattle.tabled_draw.specs.Picture.{picture};
-ghost use Rattle.tabled_draw.specs.Texts.{text_width};
-ghost use Rattle.tabled_draw.specs.Width.{picture_width};
+ghost use Rattle.tabled_draw.specs.Width.{HasItsWidth, picture_width};
 ghost use Rattle.tabled_draw.specs.declared.alignment.Alignment.{Alignment};
 ghost use Rattle.tabled_draw.specs.declared.style.Style.{Style};
-ghost use Rattle.tabled_grid.specs.Fitting.{fitting};
 ghost use Rattle.tabled_grid.specs.Grid.{Grid, map_grid};
-ghost use Rattle.tabled_grid.specs.Spans.{AreSpanSizes, SpanMap, rectangles};
+ghost use Rattle.tabled_grid.specs.Spans.{SpanMap};
 
 use crate::borders::line_size;
 use crate::layout::layout_of;
@@ -35,7 +30,6 @@ where
     R::Cell: CellText,
     requires { R.is_well_formed records.now }
     ensures width { IfOk result (λ width. width ≡ picture_width style.now (map_grid R.Cell.text_of (R.grid records.now)) cfg.now) }
-    ensures sizes { AreSpanSizes cfg.now }
 {
     let rows = records.count_rows();
     let columns = records.count_columns();
@@ -52,5 +46,5 @@ where
 /// Each line of a picture takes as many columns as `picture_width` says, where no character of the style takes more than
 /// one.
 pub fn lines_take_the_width_of_their_picture()
-    ensures { (style : Style) (aligns : List Alignment) (g : Grid (List ℕ)) (m : SpanMap) → AreSpanSizes m → IsFine style → AllByRecursion (λ line. text_width line ≡ picture_width style g m) (picture style aligns g (fitting g.rows g.columns (rectangles m))) }
+    ensures { (style : Style) (aligns : List Alignment) (g : Grid (List ℕ)) (m : SpanMap) → HasItsWidth style aligns g m }
 {}

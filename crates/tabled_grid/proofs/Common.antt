@@ -15,8 +15,8 @@ pub use Rattle.std.proofs.lemmas.Option.{get_or_from_slice_get, none-some, same_
 pub use Rattle.std.proofs.lemmas.Slice.Zip.{AllZip-map, length-zip}
 pub use Rattle.std.specs.Bool.{Decides}
 pub use Rattle.std.specs.Cmp.{IsTotalOrder, alike_right, both_ways, eq_by_cmp_equiv}
-pub use Rattle.std.specs.FinMap.{IsAntisymmetric, empty_of_len, entries, entries-from_sorted, entries-insert, entries_sorted, find, from_sorted, get, get-entries, get-from_sorted, get-insert, get-remove, get-retain_keys, is_sorted, len-entries, same_entries_map, same_map}
-pub use Rattle.std.specs.FinMap.Entries.{below_all, by_order, find-where_key, is_sorted-put, is_sorted-where_key, put, where_key}
+pub use Rattle.std.specs.FinMap.{FinMap, IsAntisymmetric, entries, entries-from_sorted, entries_sorted, find, from_sorted, get-entries, get-from_sorted, is_sorted}
+pub use Rattle.std.specs.FinMap.Entries.{below_all, by_order, find-put, find-where_key, is_sorted-put, is_sorted-where_key, put, where_key}
 pub use Rattle.std.specs.Global.{Vec}
 pub use Rattle.std.specs.Int.{div_ceil}
 pub use Rattle.std.specs.List.{All, AllByRecursion, AllWithin, AllZip, HoldsAt, count_by, filter, flat_map, fold, insert, list_all, list_any, range_with_len, remove, swap, zip}
@@ -51,7 +51,7 @@ pub use Rattle.tabled_grid.specs.Places.{FillsThrough, IsShapedAs, Places, Takes
 pub use Rattle.tabled_grid.specs.Rectangles.{holds, reaches_across, reaches_down}
 pub use Rattle.tabled_grid.specs.Resized.{AreBlanks, InsertsBlank, InsertsColumn, InsertsRow, with_cell_if, with_cells_swapped, with_column, with_columns_swapped, with_row, with_rows_swapped, without_column, without_row}
 pub use Rattle.tabled_grid.specs.Shifts.{crosses_line, is_crossed, shifted, shifted_in, shifted_place}
-pub use Rattle.tabled_grid.specs.Spans.{AreAnchors, AreSorted, AreSpanSizes, IsSizeAt, IsSpanSize, SpanMap, is_cell, map_of, of_pairs, pairs, position_cmp, rectangle, rectangles, size_at, sized, with_column_span, with_row_span, with_size, with_sizes}
+pub use Rattle.tabled_grid.specs.Spans.{AreAnchors, AreSorted, IsSizeAt, IsSpanSize, SpanMap, anchors-spans_of, get, have_spans, is_cell, is_span, map_of, of_pairs, pairs, position_cmp, rectangle, rectangles, same_spans, size_at, sized, with_column_span, with_row_span, with_size, with_sizes}
 pub use Rattle.tabled_grid.specs.declared.config.position.Position.{Position}
 pub use Rattle.tabled_grid.specs.declared.config.rectangle.Rectangle.{Rectangle}
 pub use Rattle.tabled_grid.specs.declared.config.size.Size.{Size}

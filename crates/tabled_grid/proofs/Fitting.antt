@@ -1,9 +1,8 @@
 -- What is left once the rectangles that do not fit have gone.
-use Rattle.tabled_grid.proofs.Common.{◌||◌, ◌∙◌, ◌≡◌, ◌⊎◌, All-filter, All-from_recursion, AreAnchors, AreSpanSizes, Fits, List, None, Option, Position, Rectangle, Size, Some, SpanMap, and_from, and_parts, ap, are_apart, cases_Bool, false, fits_among, fitting, get, inl, inr, keep_fitting, lies_inside, list_all, map_of, meets, not, not_from_false, or_cases, or_left, or_right, rectangle, rectangles, recursion_from_All, refl, rules, same_map, same_place, subst, sym, true, ℕ}
+use Rattle.tabled_grid.proofs.Common.{◌||◌, ◌∙◌, ◌≡◌, ◌⊎◌, All-filter, All-from_recursion, AreAnchors, Fits, List, None, Option, Position, Rectangle, Size, Some, SpanMap, and_from, and_parts, ap, are_apart, cases_Bool, false, fits_among, fitting, get, inl, inr, keep_fitting, lies_inside, list_all, map_of, meets, not, not_from_false, or_cases, or_left, or_right, rectangle, rectangles, recursion_from_All, refl, rules, same_place, subst, sym, true, ℕ}
 use Rattle.tabled_grid.proofs.FittingAnchors.{apart-from, fits_well, has, one_anchor, room}
-pub use Rattle.tabled_grid.proofs.SortedAnchors.{anchors-of}
 use Rattle.tabled_grid.proofs.SpanMaps.{same_place-self, same_place-true}
-use Rattle.tabled_grid.proofs.SortedEntries.{get-map_of, map_of-rectangles, positions_exact, positions_total}
+use Rattle.tabled_grid.proofs.SortedEntries.{get-map_of, map_of-rectangles, rectangles_anchors, same_map}
 use Rattle.tabled_grid.proofs.Members.{Member, all-from, all-member, filter-from, filter-member, find-member, sorted-filter, sorted-find}
 
 pub anchors-fitting : (rows columns : ℕ) (es : List Rectangle) → AreAnchors es → AreAnchors (fitting rows columns es)
@@ -29,7 +28,7 @@ fitting-fits rows columns es valid =
 
 -- where all fit, all are left
 pub fitting-all : (rows columns : ℕ) (es : List Rectangle) → AreAnchors es → Fits (map_of es) rows columns → map_of (fitting rows columns es) ≡ map_of es
-fitting-all rows columns es valid fits = same_map positions_total positions_exact (map_of (fitting rows columns es)) (map_of es) (λ q. by q (get (map_of es) q) refl (get (map_of (fitting rows columns es)) q) refl)
+fitting-all rows columns es valid fits = same_map (map_of (fitting rows columns es)) (map_of es) (λ q. by q (get (map_of es) q) refl (get (map_of (fitting rows columns es)) q) refl)
   where
     left : AreAnchors (fitting rows columns es)
     left = anchors-fitting rows columns es valid
@@ -43,11 +42,11 @@ fitting-all rows columns es valid fits = same_map positions_total positions_exac
 
     over : (q : Position) (s : Size) → get (map_of es) q ≡ Some s → get (map_of (fitting rows columns es)) q ≡ Some s
     over q s h =
-        let m = find-member es q s (sym (get-map_of es q valid.sorted) ∙ h) in
-        get-map_of (fitting rows columns es) q left.sorted ∙ sorted-find (fitting rows columns es) (rectangle q s) left.sorted (filter-from (fits_among rows columns es) (rectangle q s) es m (stays (rectangle q s) m))
+        let m = find-member es q s (sym (get-map_of es q valid) ∙ h) in
+        get-map_of (fitting rows columns es) q left ∙ sorted-find (fitting rows columns es) (rectangle q s) left.sorted (filter-from (fits_among rows columns es) (rectangle q s) es m (stays (rectangle q s) m))
 
     back : (q : Position) (s : Size) → get (map_of (fitting rows columns es)) q ≡ Some s → get (map_of es) q ≡ Some s
-    back q s h = has rows columns es valid (rectangle q s) (filter-member (fits_among rows columns es) (rectangle q s) es (find-member (fitting rows columns es) q s (sym (get-map_of (fitting rows columns es) q left.sorted) ∙ h))).0
+    back q s h = has rows columns es valid (rectangle q s) (filter-member (fits_among rows columns es) (rectangle q s) es (find-member (fitting rows columns es) q s (sym (get-map_of (fitting rows columns es) q left) ∙ h))).0
 
     by : (q : Position) (x : Option Size) → get (map_of es) q ≡ x → (y : Option Size) → get (map_of (fitting rows columns es)) q ≡ y → get (map_of (fitting rows columns es)) q ≡ get (map_of es) q
     by q (Some s) h y k = over q s h ∙ sym h
@@ -55,8 +54,8 @@ fitting-all rows columns es valid fits = same_map positions_total positions_exac
     by q None h None k = k ∙ sym h
 
 -- of maps
-pub keep_fitting-fits : (rows columns : ℕ) (m : SpanMap) → AreSpanSizes m → Fits (keep_fitting rows columns m) rows columns
-keep_fitting-fits rows columns m sizes = fitting-fits rows columns (rectangles m) (anchors-of m sizes)
+pub keep_fitting-fits : (rows columns : ℕ) (m : SpanMap) → Fits (keep_fitting rows columns m) rows columns
+keep_fitting-fits rows columns m = fitting-fits rows columns (rectangles m) (rectangles_anchors m)
 
 pub keep_fitting-all : (rows columns : ℕ) (m : SpanMap) → Fits m rows columns → keep_fitting rows columns m ≡ m
-keep_fitting-all rows columns m fits = fitting-all rows columns (rectangles m) (anchors-of m fits.sizes) (subst (λ (n : SpanMap). Fits n rows columns) (sym (map_of-rectangles m)) fits) ∙ map_of-rectangles m
+keep_fitting-all rows columns m fits = fitting-all rows columns (rectangles m) (rectangles_anchors m) (subst (λ (n : SpanMap). Fits n rows columns) (sym (map_of-rectangles m)) fits) ∙ map_of-rectangles m

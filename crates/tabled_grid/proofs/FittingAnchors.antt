@@ -3,9 +3,8 @@ use Rattle.tabled_grid.proofs.Common.{[], ◌∙◌, ◌∷◌, ◌≡◌, ◌�
 use Rattle.tabled_grid.proofs.Geometry.{In}
 use Rattle.tabled_grid.proofs.Members.{Member, all-from, all-member, below-member, find-member, sorted-find}
 use Rattle.tabled_grid.proofs.PassedAnchors.{Meets, earlier, later_apart, meets-from, meets-true, meets-turned}
-use Rattle.tabled_grid.proofs.SortedEntries.{get-map_of, halves}
+use Rattle.tabled_grid.proofs.SortedEntries.{get-map_of, halves, span_at}
 use Rattle.tabled_grid.proofs.SpanMaps.{holds-from, holds-true}
-use Rattle.tabled_grid.proofs.Spans.{span_sizes}
 
 -- two rectangles with a common cell meet
 pub sharing : (a b : Position) (s t : Size) (p : Position) → holds (rectangle a s) p ≡ true → holds (rectangle b t) p ≡ true → meets (rectangle a s) (rectangle b t) ≡ true
@@ -44,7 +43,6 @@ apart-from (e ∷ es) up same =
 module _ (rows columns : ℕ) (es : List Rectangle) (valid : AreAnchors es) where
   pub fits_well : lie_well rows columns es ≡ true → Fits (map_of es) rows columns
   fits_well well = record {
-    sizes = span_sizes es valid;
     inside = λ a s h. (let room = and_parts _ _ (all-member (lies_inside rows columns) (rectangle a s) es parts.0 (stands a s h)) in (leb-true _ _ room.0, leb-true _ _ room.1));
     apart = λ a b s t p ha hb ia ib. ap (λ (e : Rectangle). e.first) (apart-members es (rectangle a s) (rectangle b t) parts.1 (stands a s ha) (stands b t hb) (sharing a b s t p ia ib));
   }
@@ -53,16 +51,16 @@ module _ (rows columns : ℕ) (es : List Rectangle) (valid : AreAnchors es) wher
       parts = and_parts (list_all (lies_inside rows columns) es) (are_apart es) well
 
       stands : (a : Position) (s : Size) → get (map_of es) a ≡ Some s → Member (rectangle a s) es
-      stands a s h = find-member es a s (sym (get-map_of es a valid.sorted) ∙ h)
+      stands a s h = find-member es a s (sym (get-map_of es a valid) ∙ h)
 
   pub has : (e : Rectangle) → Member e es → get (map_of es) e.first ≡ Some e.size
-  has e m = get-map_of es e.first valid.sorted ∙ sorted-find es e valid.sorted m
+  has e m = get-map_of es e.first valid ∙ sorted-find es e valid.sorted m
 
   -- of rectangles whose map fits two that meet have one anchor
   pub one_anchor : Fits (map_of es) rows columns → (e f : Rectangle) → Member e es → Member f es → meets e f ≡ true → e.first ≡ f.first
   one_anchor fits e f m n t =
-      let s = fits.sizes.each e.first e.size (has e m) in
-      let u = fits.sizes.each f.first f.size (has f n) in
+      let s = span_at (map_of es) e.first e.size (has e m) in
+      let u = span_at (map_of es) f.first f.size (has f n) in
       let cell = shared e.first f.first e.size f.size s.height s.width u.height u.width (meets-true e f t) in
       fits.apart e.first f.first e.size f.size cell.0 (has e m) (has f n) cell.1 cell.2
 

@@ -1,11 +1,11 @@
 -- How many anchors hide a place, and how that follows the map.
-use Rattle.tabled_grid.proofs.Common.{[], ◌%◌, ◌*◌, ◌+◌, ◌-◌, ◌<◌, ◌||◌, ◌∙◌, ◌∷◌, ◌≡◌, ◌≢◌, ◌≤◌, ◌⊎◌, AllByRecursion, AreSorted, Bool, IsNumbered, List, None, Option, Position, Rectangle, Size, Some, SpanMap, Stepped, Steps, ap, ap₂, arith, beyond, cases_Bool, cases_lt, common_steps, cond, count_by, eq_by_cmp, false, false_from_ne_true, find, find-where_key, get, get_or, hiders_in, hiders_of, hides, inl, inr, is_hidden, length, list_any, lt-ltb, map_of, mul-le-mul_right, nat_lt, not, pairs, place, position_cmp, rectangle, rectangles, refl, replicate, rules, same_map, size_at, sized, subst, sym, table, take, tied_itself, true, unwrap_or, with_size, ℕ}
+use Rattle.tabled_grid.proofs.Common.{[], ◌%◌, ◌*◌, ◌+◌, ◌-◌, ◌<◌, ◌||◌, ◌∙◌, ◌∷◌, ◌≡◌, ◌≢◌, ◌≤◌, ◌⊎◌, AllByRecursion, AreSorted, Bool, In, IsNumbered, List, None, Option, Position, Rectangle, Size, Some, SpanMap, Stepped, Steps, ap, ap₂, arith, beyond, cases_Bool, cases_lt, common_steps, cond, count_by, eq_by_cmp, false, false_from_ne_true, false≢true, get, get_or, hiders_in, hiders_of, hides, inl, inr, is_hidden, is_span, length, list_any, lt-ltb, mul-le-mul_right, nat_lt, not, place, position_cmp, rectangle, rectangles, refl, replicate, rules, size_at, sized, subst, sym, table, take, tied_itself, true, unwrap_or, with_size, ℕ}
 use Rattle.std.proofs.Math.Nat.{add-mod_right, mod-eq_of_lt}
 use Rattle.std.proofs.lemmas.List.Sums.{count_by_more_no, count_by_more_yes, sum_by-cons, sum_by-take-le}
 use Rattle.tabled_grid.proofs.PassedAnchors.{Earlier, earlier}
-use Rattle.tabled_grid.proofs.Members.{sorted-filter}
-use Rattle.tabled_grid.proofs.SortedEntries.{Below, elsewhere, find_at, get-map_of, get-rectangles, halves, less, none_below, pairs-filter, positions_exact, positions_total, rectangles-map_of, rectangles_sorted}
-use Rattle.tabled_grid.proofs.SpanMaps.{equal, size_at-with_size, with_size-other}
+use Rattle.tabled_grid.specs.Spans as spans
+use Rattle.tabled_grid.proofs.SortedEntries.{Below, elsewhere, filter_anchors, find_at, get-rectangles, get-retain, halves, less, none_below, positions_exact, positions_total, rectangles-map_of, rectangles_anchors, rectangles_sorted, same_map, span-from}
+use Rattle.tabled_grid.proofs.SpanMaps.{equal, size_at-with_none, size_at-with_span, with_size-other}
 use Rattle.tabled_grid.proofs.Stepping.{hides-true}
 use Rattle.tabled_grid.proofs.Tables.{table-zero}
 
@@ -72,15 +72,15 @@ rest m a = elsewhere a (rectangles m)
 
 rest-same : (m n : SpanMap) (a : Position) → ((q : Position) → q ≢ a → get n q ≡ get m q) → rest n a ≡ rest m a
 unfolding rest
-rest-same m n a same = sym (rectangles-map_of (rest n a) (up n)) ∙ ap rectangles (same_map positions_total positions_exact (map_of (rest n a)) (map_of (rest m a)) each) ∙ rectangles-map_of (rest m a) (up m)
+rest-same m n a same = sym (left n) ∙ ap rectangles (same_map (spans.remove n a) (spans.remove m a) each) ∙ left m
   where
-    up : (k : SpanMap) → AreSorted (rest k a)
-    up k = sorted-filter (λ (e : Rectangle). not (eq_by_cmp position_cmp a e.first)) (rectangles k) (rectangles_sorted k)
+    left : (k : SpanMap) → rectangles (spans.remove k a) ≡ rest k a
+    left k = rectangles-map_of (rest k a) (filter_anchors (λ q. not (eq_by_cmp position_cmp a q)) (rectangles k) (rectangles_anchors k))
 
-    found : (k : SpanMap) (q : Position) → get (map_of (rest k a)) q ≡ cond (not (eq_by_cmp position_cmp a q)) (get k q) None
-    found k q = get-map_of (rest k a) q (up k) ∙ ap (find position_cmp q) (pairs-filter (λ x. not (eq_by_cmp position_cmp a x)) (rectangles k)) ∙ find-where_key position_cmp (λ x. not (eq_by_cmp position_cmp a x)) q (λ x t. ap (λ y. not (eq_by_cmp position_cmp a y)) (sym (positions_exact q x t))) (pairs (rectangles k)) ∙ ap (λ v. cond (not (eq_by_cmp position_cmp a q)) v None) (sym (get-rectangles k q))
+    found : (k : SpanMap) (q : Position) → get (spans.remove k a) q ≡ cond (not (eq_by_cmp position_cmp a q)) (get k q) None
+    found k q = get-retain k (λ x. not (eq_by_cmp position_cmp a x)) q
 
-    each : (q : Position) → get (map_of (rest n a)) q ≡ get (map_of (rest m a)) q
+    each : (q : Position) → get (spans.remove n a) q ≡ get (spans.remove m a) q
     each q = grind (arith, common_steps, found, cases_Bool, tied_itself, positions_total)
 
 -- a place of one cell is none that an entry may have for nothing
@@ -116,15 +116,28 @@ counts-apart test a (e ∷ es) one up = by (cases_Bool (eq_by_cmp position_cmp a
 one_cell_hides_none : (a p : Position) → hides p (rectangle a (sized 1 1)) ≡ false
 one_cell_hides_none a p = false_from_ne_true _ (λ t. let at = hides-true (rectangle a (sized 1 1)) p t in at.other (ap₂ place (omega (arith, at.holds.top, at.holds.bottom)) (omega (arith, at.holds.left, at.holds.right))))
 
+-- nor does a size that is not that of more than one cell
+no_span_hides_none : (a p : Position) (size : Size) → is_span size ≡ false → hides p (rectangle a size) ≡ false
+no_span_hides_none a p size f = false_from_ne_true _ (λ t.
+    let at = hides-true (rectangle a size) p t in
+    false≢true (sym f ∙ span-from size (record { height = omega (arith, at.holds.top, at.holds.bottom); width = omega (arith, at.holds.left, at.holds.right); merges = either at.holds at.other (cases_lt 1 size.height) (cases_lt 1 size.width) })))
+  where
+    either : In (rectangle a size) p → a ≢ p → (1 < size.height) ⊎ (size.height ≤ 1) → (1 < size.width) ⊎ (size.width ≤ 1) → (1 < size.height) ⊎ (1 < size.width)
+    either at other (inl h) w = inl h
+    either at other (inr h) (inl w) = inr w
+    either at other (inr h) (inr w) = absurd (other (ap₂ place (omega (arith, at.top, at.bottom)) (omega (arith, at.left, at.right))))
+
 -- an anchor hides a place, or not, beside all others
 hiders-apart : (m : SpanMap) (a p : Position) → hiders_of m p ≡ hiders_in (rest m a) p + cond (hides p (rectangle a (size_at m a))) 1 0
 unfolding rest
 hiders-apart m a p = counts-apart (hides p) a (rectangles m) (one_cell_hides_none a p) (rectangles_sorted m) ∙ ap (λ v. hiders_in (rest m a) p + cond (hides p (rectangle a (unwrap_or v (sized 1 1)))) 1 0) (sym (get-rectangles m a))
 
 hiders-with : (m : SpanMap) (a p : Position) (new : Size) → hiders_of (with_size m a new) p ≡ hiders_in (rest m a) p + cond (hides p (rectangle a new)) 1 0
-hiders-with m a p new =
-    hiders-apart (with_size m a new) a p
-    ∙ ap₂ (λ es size. hiders_in es p + cond (hides p (rectangle a size)) 1 0) (rest-same m (with_size m a new) a (λ q n. with_size-other m a new q n)) (size_at-with_size m a new)
+hiders-with m a p new = hiders-apart (with_size m a new) a p ∙ ap (λ es. hiders_in es p + cond (hides p (rectangle a (size_at (with_size m a new) a))) 1 0) (rest-same m (with_size m a new) a (λ q n. with_size-other m a new q n)) ∙ ap (λ b. hiders_in (rest m a) p + cond b 1 0) (either (cases_Bool (is_span new)))
+  where
+    either : (is_span new ≡ true) ⊎ (is_span new ≡ false) → hides p (rectangle a (size_at (with_size m a new) a)) ≡ hides p (rectangle a new)
+    either (inl t) = ap (λ (size : Size). hides p (rectangle a size)) (size_at-with_span m a new t)
+    either (inr f) = ap (λ (size : Size). hides p (rectangle a size)) (size_at-with_none m a new f) ∙ one_cell_hides_none a p ∙ sym (no_span_hides_none a p new f)
 
 abbrev number : Bool → ℕ
 number b = cond b 1 0

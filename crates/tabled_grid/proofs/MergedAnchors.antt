@@ -1,7 +1,8 @@
 -- Sorted anchors and sorted sizes, merged from the front.
-use Rattle.tabled_grid.proofs.Common.{[], ◌++◌, ◌+◌, ◌<◌, ◌∙◌, ◌∷◌, ◌≡◌, ◌≤◌, ◌⊎◌, AllByRecursion, AreAnchors, AreSorted, Bool, Equal, Greater, IsSizeAt, IsSpanSize, Less, List, Ordering, Position, Rectangle, Size, T, anchor_of, and_from, ap, append_assoc, arith, by_order, cases_Bool, cases_lt, common_steps, cond, drop, drop-cons, drop_more, drop_of_length-le, eq_by_cmp, false, filter, get_or, inl, inr, is_cell, is_eq, is_lt, length, map_of, not, of_pairs, ordering_reverse, pairs, position_cmp, put, rectangle, refl, subst, sym, true, with_size, with_size_in, with_sizes, with_sizes_in, without_first_at, ℕ}
+use Rattle.tabled_grid.proofs.Common.{[], ◌++◌, ◌+◌, ◌<◌, ◌∙◌, ◌∷◌, ◌≡◌, ◌≤◌, ◌⊎◌, AllByRecursion, AreAnchors, AreSorted, Bool, Equal, Greater, IsSizeAt, IsSpanSize, Less, List, Ordering, Position, Rectangle, T, anchor_of, and_from, and_parts, ap, append_assoc, arith, cases_Bool, cases_lt, common_steps, cond, drop, drop-cons, drop_more, drop_of_length-le, eq_by_cmp, false, false_from_ne_true, filter, get_or, inl, inr, is_cell, is_eq, is_lt, is_span, length, map_of, not, of_pairs, ordering_reverse, pairs, position_cmp, put, rectangle, refl, subst, sym, true, with_size, with_size_in, with_sizes, with_sizes_in, without_first_at, ℕ}
+use borrow.Author.Tests.{eqb-true}
 use Rattle.tabled_grid.proofs.Spans.{Makes, with_anchor, without_anchor}
-use Rattle.tabled_grid.proofs.SortedEntries.{Below, above, both, elsewhere, halves, is_less, less, of_pairs-pairs, pairs-of_pairs, positions_exact, positions_total}
+use Rattle.tabled_grid.proofs.SortedEntries.{Below, above, both, elsewhere, filter_anchors, halves, is_less, less, of_pairs-pairs, pairs-of_pairs, positions_exact, positions_total, put_anchors, span-from, span-true}
 
 is_one : Rectangle → Bool
 is_one c = is_cell c.size
@@ -145,9 +146,6 @@ module _ (merged all_anchors all_sizes : List Rectangle) where
         is = behind c merged (with_sizes_in (without_first_at c.first es) cs) ∙ ap (λ xs. merged ++ xs) (sym (kept_stays c (without_first_at c.first es) cs (halves _ _ m.sizes_sorted).0) ∙ ap (λ xs. with_sizes_in xs cs) (sym step)) ∙ m.is;
       }
 
-abbrev HasSize : Rectangle → Type 0
-HasSize e = IsSpanSize e.size
-
 -- a size that is not that of one cell
 span_size : (c : Rectangle) → IsSizeAt c → is_one c ≡ false → IsSpanSize c.size
 unfolding is_one
@@ -158,26 +156,23 @@ span_size c size other = record { height = size.height; width = size.width; merg
     either (inr h) (inl w) = inr w
     either (inr h) (inr w) = grind (arith, common_steps, and_from)
 
-sizes_put : (p : Position) (size : Size) (es : List Rectangle) → IsSpanSize size → AllByRecursion HasSize es → AllByRecursion HasSize (of_pairs (put position_cmp p size (pairs es)))
-sizes_put p size [] ok all = (ok, tt)
-sizes_put p size (e ∷ es) ok all = elim (position_cmp p e.first) as (λ o. AllByRecursion HasSize (of_pairs (by_order o ((p, size) ∷ pairs (e ∷ es)) ((e.first, size) ∷ pairs es) ((e.first, e.size) ∷ put position_cmp p size (pairs es))))) [
-  | Less ↦ (ok, subst (AllByRecursion HasSize) (sym (of_pairs-pairs (e ∷ es))) all)
-  | Equal ↦ (ok, subst (AllByRecursion HasSize) (sym (of_pairs-pairs es)) all.1)
-  | Greater ↦ (all.0, sizes_put p size es ok all.1)
-]
-
-sizes_elsewhere : (p : Position) (es : List Rectangle) → AllByRecursion HasSize es → AllByRecursion HasSize (elsewhere p es)
-sizes_elsewhere p [] all = tt
-sizes_elsewhere p (e ∷ es) all = elim (not (eq_by_cmp position_cmp p e.first)) as (λ b. AllByRecursion HasSize (cond b (e ∷ elsewhere p es) (elsewhere p es))) [ true ↦ (all.0, sizes_elsewhere p es all.1) | false ↦ sizes_elsewhere p es all.1 ]
+-- and one that is
+one_span : (c : Rectangle) → is_one c ≡ true → is_span c.size ≡ false
+unfolding is_one
+one_span c t = false_from_ne_true _ (λ u. let parts = and_parts _ _ t in let size = span-true c.size u in either (eqb-true _ _ parts.0) (eqb-true _ _ parts.1) size.merges)
+  where
+    either : c.size.height ≡ 1 → c.size.width ≡ 1 → (1 < c.size.height) ⊎ (1 < c.size.width) → ⊥
+    either tall wide (inl h) = omega (arith, tall)
+    either tall wide (inr h) = omega (arith, wide)
 
 -- a list of anchors with a size makes the map with that size
 with_size_makes : (es : List Rectangle) (c : Rectangle) → AreAnchors es → IsSizeAt c → Makes (with_size_in es c) (with_size (map_of es) c.first c.size)
-unfolding is_one
+unfolding is_one differs
 with_size_makes es c valid size = either (cases_Bool (is_one c))
   where
     either : (is_one c ≡ true) ⊎ (is_one c ≡ false) → Makes (with_size_in es c) (with_size (map_of es) c.first c.size)
-    either (inl t) = rw t (without_anchor es valid c.first (elsewhere c.first es) (sizes_elsewhere c.first es valid.sizes) refl)
-    either (inr f) = rw f (with_anchor es valid c.first (of_pairs (put position_cmp c.first c.size (pairs es))) c.size (sizes_put c.first c.size es (span_size c size f) valid.sizes) (pairs-of_pairs _))
+    either (inl t) = rw (one_span c t, t) (without_anchor es valid c.first (elsewhere c.first es) (filter_anchors (differs c.first) es valid).sizes refl)
+    either (inr f) = rw (span-from c.size (span_size c size f), f) (with_anchor es valid c.first (of_pairs (put position_cmp c.first c.size (pairs es))) c.size (put_anchors c.first c.size es (span_size c size f) valid).sizes (pairs-of_pairs _))
 
 pub with_sizes_make : (es sizes : List Rectangle) → AreAnchors es → AllByRecursion IsSizeAt sizes → Makes (with_sizes_in es sizes) (with_sizes (map_of es) sizes)
 with_sizes_make es [] valid all = record { valid = valid; is = refl }

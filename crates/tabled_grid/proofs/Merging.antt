@@ -1,9 +1,10 @@
 -- How rectangles lie while spans are set, and once hidden anchors are dropped. What is said of columns is
 -- said of rows with rows and columns exchanged.
-use Rattle.tabled_grid.proofs.Common.{[], ◌+◌, ◌<◌, ◌∙◌, ◌∷◌, ◌≡◌, ◌≢◌, ◌≤◌, ◌⊎◌, AllByRecursion, AreSpanSizes, Fits, IsSpanSize, List, Midway, None, Position, Size, Some, SpanMap, arith, common_steps, drop_hidden, false, false_from_ne_true, fold, get, holds, inl, inr, is_visible, nat_eq, place, rectangle, refl, rules, size_at, sized, subst, sym, true, with_column_span, with_row_span, with_size, ℕ}
+use Rattle.tabled_grid.proofs.Common.{[], ◌+◌, ◌<◌, ◌∙◌, ◌∷◌, ◌≡◌, ◌≢◌, ◌≤◌, ◌⊎◌, AllByRecursion, Fits, IsSpanSize, List, Midway, None, Position, Size, Some, SpanMap, ap, arith, drop_hidden, false, false_from_ne_true, fold, get, holds, inl, inr, is_visible, nat_eq, place, rectangle, refl, rules, size_at, sized, subst, sym, true, with_column_span, with_row_span, with_size, ℕ}
 use borrow.Author.Tests.{eqb-true}
 use Rattle.tabled_grid.proofs.Geometry.{Flat, Hooked, In, Narrow, Widened, LieWithin, cases_place, flat_flipped, flat_widened, flip, flip_size, flipped, full_flipped, hooked_flat, hooked_flipped, hooked_widened, narrow_flipped, visible_flipped, within_flipped, within_widened}
-use Rattle.tabled_grid.proofs.SpanMaps.{At, at, full, holds-from, holds-true, kept, kept_or_one, none, size_at-none, size_at-some, size_at-with_size, size_at-with_size-other, sizes-drop_hidden, sizes-with_size, some, visible, with_size-other}
+use Rattle.tabled_grid.proofs.SortedEntries.{span_at}
+use Rattle.tabled_grid.proofs.SpanMaps.{At, at, full, holds-from, holds-true, kept, kept_or_one, none, size_at-none, size_at-some, size_at-with_size, size_at-with_size-other, some, visible, with_size-other}
 
 -- rectangles that fit
 
@@ -26,7 +27,6 @@ hooked_fits m rows columns fits = record { hook = λ a b p ha hb. by_anchor a b 
 -- before the first span is set
 pub midway : (m : SpanMap) (rows columns : ℕ) → Fits m rows columns → Midway m rows columns
 midway m rows columns fits = record {
-  sizes = fits.sizes;
   hooked = hooked_fits m rows columns fits;
   within = record { tall = λ a h. tall a (at m a) h; wide = λ a h. wide a (at m a) h };
 }
@@ -45,13 +45,13 @@ midway m rows columns fits = record {
 
 -- after the last: once hidden anchors are dropped, all at once, the rectangles fit
 pub fits_dropped : (m : SpanMap) (rows columns : ℕ) → Midway m rows columns → Fits (drop_hidden m) rows columns
-fits_dropped m rows columns mid = record { sizes = sizes-drop_hidden m mid.sizes; inside = inside_at; apart = apart }
+fits_dropped m rows columns mid = record { inside = inside_at; apart = apart }
   where
     inside_at : (a : Position) (size : Size) → get (drop_hidden m) a ≡ Some size → (a.row + size.height ≤ rows) × (a.col + size.width ≤ columns)
     inside_at a size has =
         let was = kept m a size has in
         let is = size_at-some m a size was.had in
-        let more = (mid.sizes.each a size was.had).merges in
+        let more = (span_at m a size was.had).merges in
         (subst (λ (s : Size). a.row + s.height ≤ rows) is (mid.within.tall a (rw is more)), subst (λ (s : Size). a.col + s.width ≤ columns) is (mid.within.wide a (rw is more)))
 
     by_hook : (a b : Position) → is_visible m a ≡ true → is_visible m b ≡ true → In (rectangle a (size_at m a)) b ⊎ In (rectangle b (size_at m b)) a → a ≡ b
@@ -79,16 +79,13 @@ row_span-is m p h k = rw (positive h k) refl
 
 module _ (m : SpanMap) (p : Position) (w : ℕ) (some_width : 1 ≤ w) where
   widened : Widened (size_at m) (size_at (with_column_span m p w)) p w
-  widened = rw (column_span-is m p w some_width) (record { here = size_at-with_size m p (sized (size_at m p).height w); others = λ q n. size_at-with_size-other m p (sized (size_at m p).height w) q n })
+  widened = rw (column_span-is m p w some_width) (record { here = size_at-with_size m p (sized (size_at m p).height w) ((full m).height p) some_width; others = λ q n. size_at-with_size-other m p (sized (size_at m p).height w) q n })
 
   heightened : Widened (flipped (size_at m)) (flipped (size_at (with_row_span m p w))) (flip p) w
-  heightened = grind (arith, common_steps, row_span-is, flip_size, size_at-with_size, size_at-with_size-other, flip)
-
-  pub sizes_widened : AreSpanSizes m → AreSpanSizes (with_column_span m p w)
-  sizes_widened sizes = rw (column_span-is m p w some_width) (sizes-with_size m p (sized (size_at m p).height w) ((full m sizes).height p) some_width sizes)
-
-  pub sizes_heightened : AreSpanSizes m → AreSpanSizes (with_row_span m p w)
-  sizes_heightened sizes = rw (row_span-is m p w some_width) (sizes-with_size m p (sized w (size_at m p).width) some_width ((full m sizes).width p) sizes)
+  heightened = rw (row_span-is m p w some_width) (record {
+    here = ap flip_size (size_at-with_size m p (sized w (size_at m p).width) some_width ((full m).width p));
+    others = λ q n. ap flip_size (size_at-with_size-other m p (sized w (size_at m p).width) (flip q) (λ e. n (ap flip e)));
+  })
 
   module _ (rows columns : ℕ) where
     pub within_wide : p.row < rows → p.col + w ≤ columns → LieWithin (size_at m) rows columns → LieWithin (size_at (with_column_span m p w)) rows columns
@@ -99,13 +96,12 @@ module _ (m : SpanMap) (p : Position) (w : ℕ) (some_width : 1 ≤ w) where
 
     -- a width over visible cells
     pub midway_widened : p.row < rows → p.col + w ≤ columns → ((k : ℕ) → p.col ≤ k → k < p.col + w → is_visible m (place p.row k) ≡ true) → Midway m rows columns → Midway (with_column_span m p w) rows columns
-    midway_widened row fits all mid = search (rules, sizes_widened, hooked_widened, full, visible, widened, within_wide)
+    midway_widened row fits all mid = search (rules, hooked_widened, full, visible, widened, within_wide)
 
     -- a height over visible cells
     pub midway_heightened : p.col < columns → p.row + w ≤ rows → ((k : ℕ) → p.row ≤ k → k < p.row + w → is_visible m (place k p.col) ≡ true) → Midway m rows columns → Midway (with_row_span m p w) rows columns
     midway_heightened col fits all mid = record {
-      sizes = sizes_heightened mid.sizes;
-      hooked = hooked_flipped _ (hooked_widened (flipped (size_at m)) (flip p) w (full_flipped (size_at m) (full m mid.sizes)) (hooked_flipped (size_at m) mid.hooked) (λ k low high. visible_flipped (size_at m) (place k p.col) (visible m (place k p.col) (all k low high))) _ heightened);
+      hooked = hooked_flipped _ (hooked_widened (flipped (size_at m)) (flip p) w (full_flipped (size_at m) (full m)) (hooked_flipped (size_at m) mid.hooked) (λ k low high. visible_flipped (size_at m) (place k p.col) (visible m (place k p.col) (all k low high))) _ heightened);
       within = within_high col fits mid.within;
     }
 
@@ -116,11 +112,11 @@ fold-keeps P step rows columns keeps (p ∷ places) m here start = fold-keeps P 
 
 -- rectangles of one row, or of one column, whatever width or height is set
 
-pub midway_flat : (m : SpanMap) (rows columns : ℕ) → AreSpanSizes m → Flat (size_at m) → LieWithin (size_at m) rows columns → Midway m rows columns
-midway_flat m rows columns sizes flat within = record { sizes = sizes; hooked = hooked_flat (size_at m) (full m sizes) flat; within = within }
+pub midway_flat : (m : SpanMap) (rows columns : ℕ) → Flat (size_at m) → LieWithin (size_at m) rows columns → Midway m rows columns
+midway_flat m rows columns flat within = record { hooked = hooked_flat (size_at m) (full m) flat; within = within }
 
-pub midway_narrow : (m : SpanMap) (rows columns : ℕ) → AreSpanSizes m → Narrow (size_at m) → LieWithin (size_at m) rows columns → Midway m rows columns
-midway_narrow m rows columns sizes narrow within = record { sizes = sizes; hooked = hooked_flipped _ (hooked_flat (flipped (size_at m)) (full_flipped (size_at m) (full m sizes)) (narrow_flipped (size_at m) narrow)); within = within }
+pub midway_narrow : (m : SpanMap) (rows columns : ℕ) → Narrow (size_at m) → LieWithin (size_at m) rows columns → Midway m rows columns
+midway_narrow m rows columns narrow within = record { hooked = hooked_flipped _ (hooked_flat (flipped (size_at m)) (full_flipped (size_at m) (full m)) (narrow_flipped (size_at m) narrow)); within = within }
 
 pub flat_column_span : (m : SpanMap) (p : Position) (w : ℕ) → 1 ≤ w → Flat (size_at m) → Flat (size_at (with_column_span m p w))
 flat_column_span m p w h flat = flat_widened (size_at m) _ p w (widened m p w h) flat
@@ -129,17 +125,25 @@ pub narrow_row_span : (m : SpanMap) (p : Position) (h : ℕ) → 1 ≤ h → Nar
 narrow_row_span m p h k narrow = flat_flipped _ (flat_widened (flipped (size_at m)) _ (flip p) h (heightened m p h k) (narrow_flipped (size_at m) narrow))
 
 pub flat_dropped : (m : SpanMap) → Flat (size_at m) → Flat (size_at (drop_hidden m))
-flat_dropped m flat = grind (arith, common_steps, kept_or_one)
+flat_dropped m flat = record { height = λ a. either a (kept_or_one m a) }
+  where
+    either : (a : Position) → (size_at (drop_hidden m) a ≡ size_at m a) ⊎ (size_at (drop_hidden m) a ≡ sized 1 1) → (size_at (drop_hidden m) a).height ≡ 1
+    either a (inl e) = ap (λ (s : Size). s.height) e ∙ flat.height a
+    either a (inr e) = ap (λ (s : Size). s.height) e
 
 pub narrow_dropped : (m : SpanMap) → Narrow (size_at m) → Narrow (size_at (drop_hidden m))
-narrow_dropped m narrow = grind (arith, common_steps, kept_or_one)
+narrow_dropped m narrow = record { width = λ a. either a (kept_or_one m a) }
+  where
+    either : (a : Position) → (size_at (drop_hidden m) a ≡ size_at m a) ⊎ (size_at (drop_hidden m) a ≡ sized 1 1) → (size_at (drop_hidden m) a).width ≡ 1
+    either a (inl e) = ap (λ (s : Size). s.width) e ∙ narrow.width a
+    either a (inr e) = ap (λ (s : Size). s.width) e
 
 -- a rectangle that shares no cell with another's, and lies inside, is set beside rectangles that fit
 pub fits_with : (m : SpanMap) (p : Position) (size : Size) (rows columns : ℕ) → IsSpanSize size → p.row + size.height ≤ rows → p.col + size.width ≤ columns → ((a q : Position) (s : Size) → get m a ≡ Some s → In (rectangle a s) q → In (rectangle p size) q → a ≡ p) → Fits m rows columns → Fits (with_size m p size) rows columns
-fits_with m p size rows columns merges tall wide free fits = record { sizes = sizes-with_size m p size merges.height merges.width fits.sizes; inside = λ a s has. inside_at a s has (cases_place a p); apart = λ a b s t q ha hb ia ib. apart a b s t q ha hb (holds-true (rectangle a s) q ia) (holds-true (rectangle b t) q ib) (cases_place a p) (cases_place b p) }
+fits_with m p size rows columns merges tall wide free fits = record { inside = λ a s has. inside_at a s has (cases_place a p); apart = λ a b s t q ha hb ia ib. apart a b s t q ha hb (holds-true (rectangle a s) q ia) (holds-true (rectangle b t) q ib) (cases_place a p) (cases_place b p) }
   where
     here : (s : Size) → get (with_size m p size) p ≡ Some s → s ≡ size
-    here s has = sym (size_at-some (with_size m p size) p s has) ∙ size_at-with_size m p size
+    here s has = sym (size_at-some (with_size m p size) p s has) ∙ size_at-with_size m p size merges.height merges.width
 
     there : (a : Position) (s : Size) → a ≢ p → get (with_size m p size) a ≡ Some s → get m a ≡ Some s
     there a s n has = sym (with_size-other m p size a n) ∙ has

@@ -1,9 +1,9 @@
 -- How rectangles lie once a line is put in that none of them crosses.
-use Rattle.tabled_grid.proofs.Common.{[], ◌+◌, ◌-◌, ◌<◌, ◌∙◌, ◌∷◌, ◌≡◌, ◌≢◌, ◌≤◌, ◌⊎◌, AreSpanSizes, Axis, Columns, Fits, In, List, None, Option, Position, Rectangle, Rows, Size, Some, SpanMap, and_from, ap, ap₂, arith, cases_lt, cond, crosses_line, false, get, holds, inl, inr, is_crossed, is_eq, line_of, lines_in, lt-ltb, next_line, none-some, place, position_cmp, rectangle, rectangles, refl, same_Some, shifted, shifted_in, shifted_place, subst, sym, true, ℕ}
+use Rattle.tabled_grid.proofs.Common.{[], ◌+◌, ◌-◌, ◌<◌, ◌∙◌, ◌∷◌, ◌≡◌, ◌≢◌, ◌≤◌, ◌⊎◌, Axis, Columns, Fits, In, List, None, Option, Position, Rectangle, Rows, Size, Some, SpanMap, and_from, ap, ap₂, arith, cases_lt, cond, crosses_line, false, get, holds, inl, inr, is_crossed, is_eq, line_of, lines_in, lt-ltb, next_line, none-some, place, position_cmp, rectangle, rectangles, refl, same_Some, shifted, shifted_in, shifted_place, subst, sym, true, ℕ}
 use Rattle.tabled_grid.proofs.Geometry.{cases_place}
-use Rattle.tabled_grid.proofs.Shifts.{Comes, comes, moves, sorted_shifted, stays}
+use Rattle.tabled_grid.proofs.Shifts.{Comes, anchors_shifted, comes, moves, stays}
 use Rattle.tabled_grid.proofs.SpanMaps.{found-any, holds-from, holds-true, tied, untied}
-use Rattle.tabled_grid.proofs.SortedEntries.{find_at, get-map_of, get-rectangles, rectangles_sorted}
+use Rattle.tabled_grid.proofs.SortedEntries.{find_at, get-map_of, get-rectangles, rectangles_anchors}
 
 -- an anchor that came from where another was
 record CameIn (axis : Axis) (from : ℕ) (es : List Rectangle) (a : Position) (size : Size) : Type 0 where
@@ -44,8 +44,8 @@ pub record Came (axis : Axis) (from : ℕ) (m : SpanMap) (a : Position) (size : 
 
 pub came : (axis : Axis) (from : ℕ) (m : SpanMap) (a : Position) (size : Size) → get (shifted axis from m) a ≡ Some size → Came axis from m a size
 came axis from m a size has =
-    let up = sorted_shifted axis from (rectangles m) (rectangles_sorted m) in
-    let it = came_in axis from (rectangles m) a size (sym (get-map_of (shifted_in axis from (rectangles m)) a up) ∙ has) in
+    let valid = anchors_shifted axis from (rectangles m) (rectangles_anchors m) in
+    let it = came_in axis from (rectangles m) a size (sym (get-map_of (shifted_in axis from (rectangles m)) a valid) ∙ has) in
     record { old = it.old; was = get-rectangles m it.old ∙ it.was; comes = comes axis from it.old a it.to }
 
 -- a rectangle that begins before a line that none crosses ends before it
@@ -57,9 +57,6 @@ ends_before axis line m a size free has before = either (cases_lt line (line_of 
         let crossed : is_crossed axis line m ≡ true = found-any (crosses_line axis line) (rectangles m) a size (sym (get-rectangles m a) ∙ has) (and_from _ _ (lt-ltb _ _ before) (lt-ltb _ _ over)) in
         let never : false ≡ true = sym free ∙ crossed in cc
     either (inr l) = l
-
-pub sizes_shifted : (axis : Axis) (line : ℕ) (m : SpanMap) → AreSpanSizes m → AreSpanSizes (shifted axis line m)
-sizes_shifted axis line m sizes = record { each = λ a size has. let it = came axis line m a size has in sizes.each it.old size it.was }
 
 -- no rectangle holds a cell of the line that was put in
 pub line_is_free : (axis : Axis) (line : ℕ) (m : SpanMap) (a q : Position) (size : Size) → is_crossed axis line m ≡ false → get (shifted axis line m) a ≡ Some size → In (rectangle a size) q → line_of axis q ≢ line
@@ -107,7 +104,7 @@ module _ (axis : Axis) (line : ℕ) (m : SpanMap) (rows columns : ℕ) (free : i
 
 -- they fit the table with one row more
 pub fits_below : (m : SpanMap) (line : ℕ) (rows columns : ℕ) → is_crossed Rows line m ≡ false → Fits m rows columns → Fits (shifted Rows line m) (rows + 1) columns
-fits_below m line rows columns free fits = record { sizes = sizes_shifted Rows line m fits.sizes; inside = inside; apart = apart_shifted Rows line m rows columns free fits }
+fits_below m line rows columns free fits = record { inside = inside; apart = apart_shifted Rows line m rows columns free fits }
   where
     by : (old a : Position) (size : Size) → (old.row + size.height ≤ rows) × (old.col + size.width ≤ columns) → Comes Rows line old a → (a.row + size.height ≤ rows + 1) × (a.col + size.width ≤ columns)
     by old a size inside (stays before is) = rw is (omega (arith, inside.0), inside.1)
@@ -118,7 +115,7 @@ fits_below m line rows columns free fits = record { sizes = sizes_shifted Rows l
 
 -- they fit the table with one column more
 pub fits_beside : (m : SpanMap) (line : ℕ) (rows columns : ℕ) → is_crossed Columns line m ≡ false → Fits m rows columns → Fits (shifted Columns line m) rows (columns + 1)
-fits_beside m line rows columns free fits = record { sizes = sizes_shifted Columns line m fits.sizes; inside = inside; apart = apart_shifted Columns line m rows columns free fits }
+fits_beside m line rows columns free fits = record { inside = inside; apart = apart_shifted Columns line m rows columns free fits }
   where
     by : (old a : Position) (size : Size) → (old.row + size.height ≤ rows) × (old.col + size.width ≤ columns) → Comes Columns line old a → (a.row + size.height ≤ rows) × (a.col + size.width ≤ columns + 1)
     by old a size inside (stays before is) = rw is (inside.0, omega (arith, inside.1))

@@ -1,6 +1,8 @@
 -- Rectangles whose anchors rise: what a binary search finds in them, what an edit leaves, and the maps that they make.
-use Rattle.tabled_grid.proofs.Common.{[], ◌&&◌, ◌<◌, ◌∙◌, ◌∷◌, ◌≡◌, ◌≤◌, ◌⊎◌, AllWithin, AreSorted, Bool, Equal, Err, Greater, IsAntisymmetric, IsBinarySearchResult, IsNonDecreasingBy, IsSearchInRange, IsTotalOrder, Less, List, MatchResult, None, Ok, Option, Ordering, Position, Rectangle, Result, Size, Some, SpanMap, T, add-one, alike_right, ap, arith, below_all, by_order, cases_lt, cond, entries, entries-from_sorted, entries-insert, entries_sorted, eq_by_cmp, eq_by_cmp_equiv, false, filter, find, find-where_key, get, get-entries, get-from_sorted, get-remove, get_or, inl, inr, insert, is_eq, is_lt, is_sorted, length, map_of, nat_cmp, nat_cmp_total, not, of_pairs, on_total, ordering_index, ordering_reverse, pairs, position_cmp, put, rectangle, rectangles, refl, remove, same_entries_map, same_map, searchable_from_sorted, set, subst, suc, sym, then_total, true, where_key, zero, ℕ}
+use Rattle.tabled_grid.proofs.Common.{[], ◌&&◌, ◌<◌, ◌∙◌, ◌∷◌, ◌≡◌, ◌≤◌, ◌||◌, ◌⊎◌, All-filter, All-from_recursion, AllByRecursion, AllWithin, AreAnchors, AreSorted, Bool, Equal, Err, FinMap, Greater, IsAntisymmetric, IsBinarySearchResult, IsNonDecreasingBy, IsSearchInRange, IsSpanSize, IsTotalOrder, Less, List, MatchResult, None, Ok, Option, Ordering, Position, Rectangle, Result, Size, Some, SpanMap, T, add-one, anchors-spans_of, and_from, and_parts, ap, arith, below_all, by_order, cases_lt, cond, entries, entries-from_sorted, entries_sorted, eq_by_cmp, eq_by_cmp_equiv, false, filter, find, find-put, find-where_key, from_sorted, get, get-entries, get-from_sorted, get_or, have_spans, inl, inr, insert, is_eq, is_lt, is_sorted, is_sorted-put, is_sorted-where_key, is_span, le-leb, leb-true, length, lt-ltb, ltb-true, map_of, nat_cmp, nat_cmp_total, nat_lt, none-some, not, of_pairs, on_total, or_cases, or_left, or_right, ordering_index, ordering_reverse, pairs, position_cmp, put, rectangle, rectangles, recursion_from_All, refl, remove, same_Some, same_spans, searchable_from_sorted, set, subst, suc, sym, then_total, true, where_key, zero, ℕ}
 use Rattle.std.specs.FinMap as finite
+use Rattle.tabled_grid.specs.Spans as spans
+use Rattle.tabled_grid.specs.Spans.{empty-is, from_rectangles}
 use Rattle.std.proofs.lemmas.Map.Lookups.{exact_pairs, exact_unsigned}
 
 -- places that compare alike are one
@@ -55,21 +57,117 @@ pub pairs-filter : (test : Position → Bool) (es : List Rectangle) → pairs (f
 pairs-filter test [] = refl
 pairs-filter test (e ∷ es) = elim (test e.first) as (λ b. pairs (cond b (e ∷ filter (λ (f : Rectangle). test f.first) es) (filter (λ (f : Rectangle). test f.first) es)) ≡ cond b ((e.first, e.size) ∷ where_key position_cmp test (pairs es)) (where_key position_cmp test (pairs es))) [ true ↦ ap (λ ps. (e.first, e.size) ∷ ps) (pairs-filter test es) | false ↦ pairs-filter test es ]
 
+-- the test of a size says what it says
+pub span-true : (size : Size) → is_span size ≡ true → IsSpanSize size
+span-true size t =
+    let parts = and_parts _ _ t in
+    let each = and_parts _ _ parts.0 in
+    record { height = leb-true _ _ each.0; width = leb-true _ _ each.1; merges = either (or_cases _ _ parts.1) }
+  where
+    either : (nat_lt 1 size.height ≡ true) ⊎ (nat_lt 1 size.width ≡ true) → (1 < size.height) ⊎ (1 < size.width)
+    either (inl h) = inl (ltb-true _ _ h)
+    either (inr h) = inr (ltb-true _ _ h)
+
+pub span-from : (size : Size) → IsSpanSize size → is_span size ≡ true
+span-from size is = and_from _ _ (and_from _ _ (le-leb _ _ is.height) (le-leb _ _ is.width)) (either is.merges)
+  where
+    either : (1 < size.height) ⊎ (1 < size.width) → (nat_lt 1 size.height || nat_lt 1 size.width) ≡ true
+    either (inl h) = or_left _ _ (lt-ltb _ _ h)
+    either (inr h) = or_right _ _ (lt-ltb _ _ h)
+
+abbrev pub HasSize : Rectangle → Type 0
+HasSize anchor = IsSpanSize anchor.size
+
+pub spans-listed : (es : List Rectangle) → AllByRecursion HasSize es → have_spans (pairs es) ≡ true
+spans-listed [] all = refl
+spans-listed (e ∷ es) all = and_from _ _ (span-from e.size all.0) (spans-listed es all.1)
+
+pub listed-spans : (ps : List (Position × Size)) → have_spans ps ≡ true → AllByRecursion HasSize (of_pairs ps)
+listed-spans [] h = tt
+listed-spans (p ∷ ps) h = let parts = and_parts _ _ h in (span-true p.1 parts.0, listed-spans ps parts.1)
+
 -- the rectangles of a map, and the map of rectangles
 pub rectangles_sorted : (m : SpanMap) → AreSorted (rectangles m)
-rectangles_sorted m = subst (λ ps. T (is_sorted position_cmp ps)) (sym (pairs-of_pairs (entries m))) (entries_sorted m)
+rectangles_sorted m = subst (λ ps. T (is_sorted position_cmp ps)) (sym (pairs-of_pairs (entries m.anchors))) (entries_sorted m.anchors)
 
-pub rectangles-map_of : (es : List Rectangle) → AreSorted es → rectangles (map_of es) ≡ es
-rectangles-map_of es up = ap of_pairs (entries-from_sorted position_cmp (pairs es) up) ∙ of_pairs-pairs es
+pub rectangles_anchors : (m : SpanMap) → AreAnchors (rectangles m)
+rectangles_anchors m = record { sorted = rectangles_sorted m; sizes = listed-spans (entries m.anchors) m.proper }
+
+anchors-map_of : (es : List Rectangle) → AreAnchors es → (map_of es).anchors ≡ from_sorted (pairs es)
+anchors-map_of es valid = anchors-spans_of (from_sorted (pairs es)) (ap have_spans (entries-from_sorted position_cmp (pairs es) valid.sorted) ∙ spans-listed es valid.sizes)
+
+pub rectangles-map_of : (es : List Rectangle) → AreAnchors es → rectangles (map_of es) ≡ es
+rectangles-map_of es valid = ap (λ (a : FinMap position_cmp Size). of_pairs (entries a)) (anchors-map_of es valid) ∙ ap of_pairs (entries-from_sorted position_cmp (pairs es) valid.sorted) ∙ of_pairs-pairs es
 
 pub get-rectangles : (m : SpanMap) (p : Position) → get m p ≡ find_at p (rectangles m)
-get-rectangles m p = get-entries m p ∙ ap (find position_cmp p) (sym (pairs-of_pairs (entries m)))
+get-rectangles m p = get-entries m.anchors p ∙ ap (find position_cmp p) (sym (pairs-of_pairs (entries m.anchors)))
 
-pub get-map_of : (es : List Rectangle) (p : Position) → AreSorted es → get (map_of es) p ≡ find_at p es
-get-map_of es p up = get-from_sorted position_cmp (pairs es) p up
+pub get-map_of : (es : List Rectangle) (p : Position) → AreAnchors es → get (map_of es) p ≡ find_at p es
+get-map_of es p valid = ap (λ (a : FinMap position_cmp Size). finite.get a p) (anchors-map_of es valid) ∙ get-from_sorted position_cmp (pairs es) p valid.sorted
+
+-- maps that have the same at each place are one
+pub same_map : (m n : SpanMap) → ((q : Position) → get m q ≡ get n q) → m ≡ n
+same_map m n is = same_spans m n (finite.same_map positions_total positions_exact m.anchors n.anchors is)
 
 pub map_of-rectangles : (m : SpanMap) → map_of (rectangles m) ≡ m
-map_of-rectangles m = same_map positions_total positions_exact (map_of (rectangles m)) m (λ q. get-map_of (rectangles m) q (rectangles_sorted m) ∙ sym (get-rectangles m q))
+map_of-rectangles m = same_map (map_of (rectangles m)) m (λ q. get-map_of (rectangles m) q (rectangles_anchors m) ∙ sym (get-rectangles m q))
+
+-- what is found in a list of rectangles is the size of one of them
+found_size : (es : List Rectangle) (p : Position) (size : Size) → AllByRecursion HasSize es → find_at p es ≡ Some size → IsSpanSize size
+found_size [] p size all is = absurd (none-some size is)
+found_size (e ∷ es) p size all is = either (is_eq (position_cmp p e.first)) (found_size es p size all.1) is
+  where
+    either : (b : Bool) → (find_at p es ≡ Some size → IsSpanSize size) → cond b (Some e.size) (find_at p es) ≡ Some size → IsSpanSize size
+    either true below h = subst IsSpanSize (same_Some e.size size h) all.0
+    either false below h = below h
+
+-- each size that a map has is that of more than one cell
+pub span_at : (m : SpanMap) (p : Position) (size : Size) → get m p ≡ Some size → IsSpanSize size
+span_at m p size is = found_size (rectangles m) p size (rectangles_anchors m).sizes (sym (get-rectangles m p) ∙ is)
+
+-- anchors whose places pass a test, and what their map has
+pub filter_anchors : (test : Position → Bool) (es : List Rectangle) → AreAnchors es → AreAnchors (filter (λ (e : Rectangle). test e.first) es)
+filter_anchors test es valid = record {
+  sorted = subst (λ ps. T (is_sorted position_cmp ps)) (sym (pairs-filter test es)) (is_sorted-where_key position_cmp test (pairs es) valid.sorted);
+  sizes = recursion_from_All _ _ (All-filter (λ (e : Rectangle). test e.first) HasSize es (All-from_recursion _ _ valid.sizes));
+}
+
+pub get-retain : (m : SpanMap) (test : Position → Bool) (q : Position) → get (spans.retain m test) q ≡ cond (test q) (get m q) None
+get-retain m test q =
+    get-map_of (filter (λ (e : Rectangle). test e.first) (rectangles m)) q (filter_anchors test (rectangles m) (rectangles_anchors m))
+    ∙ ap (find position_cmp q) (pairs-filter test (rectangles m))
+    ∙ find-where_key position_cmp test q (λ x t. ap test (sym (positions_exact q x t))) (pairs (rectangles m))
+    ∙ ap (λ v. cond (test q) v None) (sym (get-rectangles m q))
+
+pub get-remove : (m : SpanMap) (p q : Position) → get (spans.remove m p) q ≡ cond (eq_by_cmp position_cmp q p) None (get m q)
+get-remove m p q = get-retain m (λ x. not (eq_by_cmp position_cmp p x)) q ∙ turned (eq_by_cmp position_cmp p q) _ _ ∙ ap (λ b. cond b None (get m q)) ((eq_by_cmp_equiv positions_total).symm p q)
+
+-- anchors with one more
+sizes_put : (p : Position) (size : Size) (es : List Rectangle) → IsSpanSize size → AllByRecursion HasSize es → AllByRecursion HasSize (of_pairs (put position_cmp p size (pairs es)))
+sizes_put p size [] ok all = (ok, tt)
+sizes_put p size (e ∷ es) ok all = elim (position_cmp p e.first) as (λ o. AllByRecursion HasSize (of_pairs (by_order o ((p, size) ∷ pairs (e ∷ es)) ((e.first, size) ∷ pairs es) ((e.first, e.size) ∷ put position_cmp p size (pairs es))))) [
+  | Less ↦ (ok, subst (AllByRecursion HasSize) (sym (of_pairs-pairs (e ∷ es))) all)
+  | Equal ↦ (ok, subst (AllByRecursion HasSize) (sym (of_pairs-pairs es)) all.1)
+  | Greater ↦ (all.0, sizes_put p size es ok all.1)
+]
+
+pub put_anchors : (p : Position) (size : Size) (es : List Rectangle) → IsSpanSize size → AreAnchors es → AreAnchors (of_pairs (put position_cmp p size (pairs es)))
+put_anchors p size es ok valid = record {
+  sorted = subst (λ ps. T (is_sorted position_cmp ps)) (sym (pairs-of_pairs (put position_cmp p size (pairs es)))) (is_sorted-put position_cmp positions_total p size (pairs es) valid.sorted);
+  sizes = sizes_put p size es ok valid.sizes;
+}
+
+pub get-insert : (m : SpanMap) (p : Position) (size : Size) (q : Position) → IsSpanSize size → get (spans.insert m p size) q ≡ cond (eq_by_cmp position_cmp q p) (Some size) (get m q)
+get-insert m p size q ok =
+    get-map_of (of_pairs (put position_cmp p size (pairs (rectangles m)))) q (put_anchors p size (rectangles m) ok (rectangles_anchors m))
+    ∙ ap (find position_cmp q) (pairs-of_pairs (put position_cmp p size (pairs (rectangles m))))
+    ∙ find-put position_cmp positions_total q p size (pairs (rectangles m))
+    ∙ ap (cond (eq_by_cmp position_cmp q p) (Some size)) (sym (get-rectangles m q))
+
+-- what the map of rectangles of more than one cell has
+pub get-from_rectangles : (es : List Rectangle) (q : Position) → AllByRecursion HasSize es → get (from_rectangles es) q ≡ find_at q es
+get-from_rectangles [] q all = ap (λ (m : SpanMap). get m q) empty-is ∙ get-map_of [] q (record { sorted = tt; sizes = tt })
+get-from_rectangles (e ∷ es) q all = get-insert (from_rectangles es) e.first e.size q all.0 ∙ ap (cond (eq_by_cmp position_cmp q e.first) (Some e.size)) (get-from_rectangles es q all.1)
 
 pub below_at : (p : Position) (es : List Rectangle) (i : ℕ) (d : Rectangle) → Below p es → i < length es → position_cmp p (get_or es i d).first ≡ Less
 below_at p [] i d h within = absurd (omega arith)
@@ -162,11 +260,8 @@ pub without_missed : (es : List Rectangle) (p : Position) (i : ℕ) → AreSorte
 without_missed es p i up within at = kept _ es (λ j d h. ap not (apart es p i up at j d h))
 
 -- the maps of such rectangles
-pub map_put : (es fs : List Rectangle) (p : Position) (size : Size) → AreSorted es → AreSorted fs → pairs fs ≡ put position_cmp p size (pairs es) → map_of fs ≡ finite.insert (map_of es) p size
-map_put es fs p size up up' is = same_entries_map _ _ (entries-from_sorted position_cmp (pairs fs) up' ∙ is ∙ sym (entries-insert positions_total (map_of es) p size ∙ ap (put position_cmp p size) (entries-from_sorted position_cmp (pairs es) up)))
+pub map_put : (es fs : List Rectangle) (p : Position) (size : Size) → AreAnchors es → pairs fs ≡ put position_cmp p size (pairs es) → map_of fs ≡ spans.insert (map_of es) p size
+map_put es fs p size valid is = ap map_of (sym (of_pairs-pairs fs) ∙ ap of_pairs is ∙ ap (λ gs. of_pairs (put position_cmp p size (pairs gs))) (sym (rectangles-map_of es valid)))
 
-pub map_without : (es : List Rectangle) (p : Position) → AreSorted es → AreSorted (elsewhere p es) → map_of (elsewhere p es) ≡ finite.remove (map_of es) p
-map_without es p up up' = same_map positions_total positions_exact _ _ (λ q.
-    get-map_of (elsewhere p es) q up' ∙ ap (find position_cmp q) (pairs-filter (λ x. not (eq_by_cmp position_cmp p x)) es) ∙ find-where_key position_cmp (λ x. not (eq_by_cmp position_cmp p x)) q (λ x t. ap (λ r. not (is_eq r)) (sym (alike_right positions_total q x p t))) (pairs es)
-    ∙ turned (eq_by_cmp position_cmp p q) _ _ ∙ ap (λ b. cond b None (find_at q es)) ((eq_by_cmp_equiv positions_total).symm p q)
-    ∙ sym (get-remove positions_total (map_of es) p q ∙ ap (cond (eq_by_cmp position_cmp q p) None) (get-map_of es q up)))
+pub map_without : (es : List Rectangle) (p : Position) → AreAnchors es → map_of (elsewhere p es) ≡ spans.remove (map_of es) p
+map_without es p valid = ap (λ fs. map_of (elsewhere p fs)) (sym (rectangles-map_of es valid))

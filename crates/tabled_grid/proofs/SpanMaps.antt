@@ -1,9 +1,9 @@
 -- What maps of spans have at each place, after each change.
-use Rattle.tabled_grid.proofs.Common.{[], ◌&&◌, ◌<◌, ◌∙◌, ◌∷◌, ◌≡◌, ◌≢◌, ◌≤◌, ◌⊎◌, AreSorted, AreSpanSizes, Bool, Equal, Greater, IsSpanSize, Less, List, None, Option, Ordering, Position, Rectangle, Size, Some, SpanMap, and_from, and_parts, ap, ap₂, arith, cases_Bool, cases_lt, common_steps, cond, cond-false, cond-true, drop_hidden, eq-eqb, eq_by_cmp, false, false≢true, get, get-insert, get-remove, get-retain_keys, holds, inl, inr, is_cell, is_eq, is_hidden, is_visible, le-leb, list_any, lt-ltb, none-some, not, not_from_false, not_from_true, or_cases, or_left, or_right, place, position_cmp, rectangle, rectangles, refl, same_Some, same_place, size_at, sized, subst, sym, tied_itself, true, unwrap_or, with_size}
-use Rattle.std.specs.FinMap as finite
+use Rattle.tabled_grid.proofs.Common.{[], ◌&&◌, ◌<◌, ◌∙◌, ◌∷◌, ◌≡◌, ◌≢◌, ◌≤◌, ◌⊎◌, AreSorted, Bool, Equal, Greater, Less, List, None, Option, Ordering, Position, Rectangle, Size, Some, SpanMap, and_from, and_parts, ap, ap₂, arith, cases_Bool, cases_lt, common_steps, cond, cond-false, cond-true, drop_hidden, eq-eqb, eq_by_cmp, false, false≢true, get, holds, inl, inr, is_eq, is_hidden, is_span, is_visible, le-leb, list_any, lt-ltb, none-some, not, not_from_false, not_from_true, or_cases, or_left, or_right, place, position_cmp, rectangle, rectangles, refl, same_Some, same_place, size_at, sized, subst, sym, tied_itself, true, unwrap_or, with_size}
+use Rattle.tabled_grid.specs.Spans as spans
 use borrow.Author.Tests.{eqb-true}
 pub use Rattle.tabled_grid.proofs.SortedEntries.{both, halves, less}
-use Rattle.tabled_grid.proofs.SortedEntries.{Below, above, find_at, get-rectangles, positions_exact, positions_total, rectangles_sorted}
+use Rattle.tabled_grid.proofs.SortedEntries.{Below, above, find_at, get-insert, get-rectangles, get-remove, get-retain, positions_exact, positions_total, rectangles_sorted, span-from, span-true, span_at}
 use Rattle.tabled_grid.proofs.Geometry.{Full, In, Visible, cases_place}
 
 pub equal : (o : Ordering) → is_eq o ≡ true → o ≡ Equal
@@ -126,8 +126,8 @@ visible m p shown a holds = by_anchor (at m a) (cases_place a p)
         let never : false ≡ true = sym (not_from_true _ hidden) ∙ shown in cc
 
 -- all sizes are those of more than one cell: no rectangle is empty
-pub full : (m : SpanMap) → AreSpanSizes m → Full (size_at m)
-full m sizes = grind (arith, common_steps, at, size_at-none, size_at-some)
+pub full : (m : SpanMap) → Full (size_at m)
+full m = grind (arith, common_steps, at, size_at-none, size_at-some, span_at)
 
 pub tied : (p : Position) → eq_by_cmp position_cmp p p ≡ true
 tied p = ap is_eq (tied_itself positions_total p)
@@ -135,58 +135,46 @@ tied p = ap is_eq (tied_itself positions_total p)
 pub untied : (q p : Position) → q ≢ p → eq_by_cmp position_cmp q p ≡ false
 untied q p n = grind (arith, common_steps, cases_Bool, positions_exact, equal)
 
+-- a size that is not that of more than one cell is that of one, or is empty
+pub one_cell : (size : Size) → 1 ≤ size.height → 1 ≤ size.width → is_span size ≡ false → size ≡ sized 1 1
+one_cell size tall wide f = either (cases_lt 1 size.height) (cases_lt 1 size.width)
+  where
+    never : (1 < size.height) ⊎ (1 < size.width) → ⊥
+    never more = false≢true (sym f ∙ span-from size (record { height = tall; width = wide; merges = more }))
+
+    either : (1 < size.height) ⊎ (size.height ≤ 1) → (1 < size.width) ⊎ (size.width ≤ 1) → size ≡ sized 1 1
+    either (inl h) w = absurd (never (inl h))
+    either (inr h) (inl w) = absurd (never (inr w))
+    either (inr h) (inr w) = ap₂ sized (omega arith) (omega arith)
+
 -- what the map has at the place whose size was set, and elsewhere
 module _ (m : SpanMap) (p : Position) (size : Size) where
   pub with_size-other : (q : Position) → q ≢ p → get (with_size m p size) q ≡ get m q
-  with_size-other q n = either (cases_Bool (is_cell size))
+  with_size-other q n = either (cases_Bool (is_span size))
     where
-      either : (is_cell size ≡ true) ⊎ (is_cell size ≡ false) → get (with_size m p size) q ≡ get m q
-      either (inl t) = rw t (get-remove positions_total m p q ∙ cond-false _ _ _ (untied q p n))
-      either (inr f) = rw f (get-insert positions_total m p size q ∙ cond-false _ _ _ (untied q p n))
+      either : (is_span size ≡ true) ⊎ (is_span size ≡ false) → get (with_size m p size) q ≡ get m q
+      either (inl t) = rw t (get-insert m p size q (span-true size t) ∙ cond-false _ _ _ (untied q p n))
+      either (inr f) = rw f (get-remove m p q ∙ cond-false _ _ _ (untied q p n))
 
   pub size_at-with_size-other : (q : Position) → q ≢ p → size_at (with_size m p size) q ≡ size_at m q
   size_at-with_size-other q n = ap (λ (s : Option Size). unwrap_or s (sized 1 1)) (with_size-other q n)
 
-  pub size_at-with_size : size_at (with_size m p size) p ≡ size
-  size_at-with_size = either (cases_Bool (is_cell size))
+  pub size_at-with_span : is_span size ≡ true → size_at (with_size m p size) p ≡ size
+  size_at-with_span t = rw t (size_at-some (spans.insert m p size) p size (get-insert m p size p (span-true size t) ∙ cond-true _ _ _ (tied p)))
+
+  pub size_at-with_none : is_span size ≡ false → size_at (with_size m p size) p ≡ sized 1 1
+  size_at-with_none f = rw f (size_at-none (spans.remove m p) p (get-remove m p p ∙ cond-true _ _ _ (tied p)))
+
+  pub size_at-with_size : 1 ≤ size.height → 1 ≤ size.width → size_at (with_size m p size) p ≡ size
+  size_at-with_size tall wide = either (cases_Bool (is_span size))
     where
-      either : (is_cell size ≡ true) ⊎ (is_cell size ≡ false) → size_at (with_size m p size) p ≡ size
-      either (inl t) =
-          let parts = and_parts _ _ t in
-          let gone : get (finite.remove m p) p ≡ None = get-remove positions_total m p p ∙ cond-true _ _ _ (tied p) in
-          rw t (size_at-none (finite.remove m p) p gone ∙ ap₂ sized (sym (eqb-true _ _ parts.0)) (sym (eqb-true _ _ parts.1)))
-      either (inr f) =
-          let put : get (finite.insert m p size) p ≡ Some size = get-insert positions_total m p size p ∙ cond-true _ _ _ (tied p) in
-          rw f (size_at-some (finite.insert m p size) p size put)
-
-  pub sizes-with_size : 1 ≤ size.height → 1 ≤ size.width → AreSpanSizes m → AreSpanSizes (with_size m p size)
-  sizes-with_size tall wide sizes = record { each = λ a s has. by_place a s has (cases_place a p) (cases_Bool (is_cell size)) }
-    where
-      more : is_cell size ≡ false → (1 < size.height) ⊎ (1 < size.width)
-      more f = either (cases_lt 1 size.height) (cases_lt 1 size.width)
-        where
-          either : (1 < size.height) ⊎ (size.height ≤ 1) → (1 < size.width) ⊎ (size.width ≤ 1) → (1 < size.height) ⊎ (1 < size.width)
-          either (inl h) c = inl h
-          either (inr l) (inl h) = inr h
-          either (inr l) (inr k) =
-              let one : is_cell size ≡ true = and_from _ _ (eq-eqb size.height 1 (omega arith)) (eq-eqb size.width 1 (omega arith)) in
-              let never : false ≡ true = sym f ∙ one in cc
-
-      here : (s : Size) → get (with_size m p size) p ≡ Some s → (is_cell size ≡ true) ⊎ (is_cell size ≡ false) → IsSpanSize s
-      here s has (inl t) =
-          let gone : get (finite.remove m p) p ≡ None = get-remove positions_total m p p ∙ cond-true _ _ _ (tied p) in
-          absurd (none-some s (sym gone ∙ (rw t at has)))
-      here s has (inr f) =
-          let put : get (finite.insert m p size) p ≡ Some size = get-insert positions_total m p size p ∙ cond-true _ _ _ (tied p) in
-          subst IsSpanSize (same_Some size s (sym put ∙ (rw f at has))) (record { height = tall; width = wide; merges = more f })
-
-      by_place : (a : Position) (s : Size) → get (with_size m p size) a ≡ Some s → (a ≡ p) ⊎ (a ≢ p) → (is_cell size ≡ true) ⊎ (is_cell size ≡ false) → IsSpanSize s
-      by_place a s has (inl e) b = here s (subst (λ (x : Position). get (with_size m p size) x ≡ Some s) e has) b
-      by_place a s has (inr n) b = sizes.each a s (sym (with_size-other a n) ∙ has)
+      either : (is_span size ≡ true) ⊎ (is_span size ≡ false) → size_at (with_size m p size) p ≡ size
+      either (inl t) = size_at-with_span t
+      either (inr f) = size_at-with_none f ∙ sym (one_cell size tall wide f)
 
 -- what is left after hidden anchors are dropped
 pub get-drop_hidden : (m : SpanMap) (q : Position) → get (drop_hidden m) q ≡ cond (is_visible m q) (get m q) None
-get-drop_hidden m q = get-retain_keys m (is_visible m) q (λ x t. ap (is_visible m) (sym (positions_exact q x t)))
+get-drop_hidden m q = get-retain m (is_visible m) q
 
 pub record Kept (m : SpanMap) (a : Position) (size : Size) : Type 0 where
   pub had : get m a ≡ Some size
@@ -194,9 +182,6 @@ pub record Kept (m : SpanMap) (a : Position) (size : Size) : Type 0 where
 
 pub kept : (m : SpanMap) (a : Position) (size : Size) → get (drop_hidden m) a ≡ Some size → Kept m a size
 kept m a size has = grind (arith, common_steps, cases_Bool, get-drop_hidden, at, none-some)
-
-pub sizes-drop_hidden : (m : SpanMap) → AreSpanSizes m → AreSpanSizes (drop_hidden m)
-sizes-drop_hidden m sizes = record { each = λ a size has. sizes.each a size (kept m a size has).had }
 
 -- after hidden anchors are dropped a place has the size that it had, or that of one cell
 pub kept_or_one : (m : SpanMap) (a : Position) → (size_at (drop_hidden m) a ≡ size_at m a) ⊎ (size_at (drop_hidden m) a ≡ sized 1 1)

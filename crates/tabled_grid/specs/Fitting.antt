@@ -1,18 +1,16 @@
 -- Where merged cells fit a table, and which of them do.
 use Rattle.std.specs.Prelude.{◌≡◌, ◌+◌, ◌≤◌, ◌&&◌, ◌||◌, ℕ, Bool, IsTrue, List, Some, [], ◌∷◌, not}
-use Rattle.std.specs.FinMap.{get}
 use Rattle.std.specs.List.{filter, list_all}
 use Rattle.tabled_grid.specs.Anchors.{lies_inside, meets}
 use Rattle.tabled_grid.specs.Entity.{same_place}
 use Rattle.tabled_grid.specs.Rectangles.{holds}
-use Rattle.tabled_grid.specs.Spans.{AreSpanSizes, SpanMap, map_of, rectangle, rectangles}
+use Rattle.tabled_grid.specs.Spans.{SpanMap, get, map_of, rectangle, rectangles}
 use Rattle.tabled_grid.specs.declared.config.position.Position.{Position}
 use Rattle.tabled_grid.specs.declared.config.rectangle.Rectangle.{Rectangle}
 use Rattle.tabled_grid.specs.declared.config.size.Size.{Size}
 
--- all rectangles, each of more than one cell, lie inside a table, and those that share a cell are one
+-- all rectangles lie inside a table, and those that share a cell are one
 pub record Fits (m : SpanMap) (rows columns : ℕ) : Type 0 where
-  pub sizes : AreSpanSizes m
   pub inside : (a : Position) (size : Size) → get m a ≡ Some size → (a.row + size.height ≤ rows) × (a.col + size.width ≤ columns)
   pub apart : (a b : Position) (s t : Size) (p : Position) → get m a ≡ Some s → get m b ≡ Some t → IsTrue (holds (rectangle a s) p) → IsTrue (holds (rectangle b t) p) → a ≡ b
 

@@ -1,10 +1,9 @@
 -- Which cells are hidden by merged cells.
 use Rattle.std.specs.Prelude.{◌&&◌, Bool, not}
-use Rattle.std.specs.FinMap.{retain_keys}
 use Rattle.std.specs.List.{list_any}
 use Rattle.tabled_grid.specs.Entity.{same_place}
 use Rattle.tabled_grid.specs.Rectangles.{holds}
-use Rattle.tabled_grid.specs.Spans.{SpanMap, rectangles}
+use Rattle.tabled_grid.specs.Spans.{SpanMap, rectangles, retain}
 use Rattle.tabled_grid.specs.declared.config.position.Position.{Position}
 use Rattle.tabled_grid.specs.declared.config.rectangle.Rectangle.{Rectangle}
 
@@ -18,4 +17,4 @@ is_visible m p = not (is_hidden m p)
 
 -- the map without the anchors that are hidden in it
 abbrev pub drop_hidden : SpanMap → SpanMap
-drop_hidden m = retain_keys m (is_visible m)
+drop_hidden m = retain m (is_visible m)

@@ -1,6 +1,6 @@
 -- What holds of rectangles while a span option sets one after another: they may meet, and lie inside.
 use Rattle.std.specs.Prelude.{◌≡◌, ◌+◌, ◌<◌, ◌≤◌, ◌⊎◌, ℕ}
-use Rattle.tabled_grid.specs.Spans.{AreSpanSizes, SpanMap, rectangle, size_at}
+use Rattle.tabled_grid.specs.Spans.{SpanMap, rectangle, size_at}
 use Rattle.tabled_grid.specs.declared.config.position.Position.{Position}
 use Rattle.tabled_grid.specs.declared.config.rectangle.Rectangle.{Rectangle}
 use Rattle.tabled_grid.specs.declared.config.size.Size.{Size}
@@ -35,6 +35,5 @@ pub record Narrow (s : Sizes) : Type 0 where
 
 -- all rectangles lie inside a table, and of two that share a cell, one has its first cell in the other
 pub record Midway (m : SpanMap) (rows columns : ℕ) : Type 0 where
-  pub sizes : AreSpanSizes m
   pub hooked : Hooked (size_at m)
   pub within : LieWithin (size_at m) rows columns

@@ -1,11 +1,16 @@
 -- Merged cells: a finite map from anchors to the sizes of their rectangles.
-use Rattle.std.specs.Prelude.{◌≡◌, ◌<◌, ◌≤◌, ◌⊎◌, ◌==◌, ◌&&◌, if◌then◌else◌, ℕ, Bool, T, List, Some, map, refl}
+use Rattle.std.specs.Prelude.{◌≡◌, ◌<◌, ◌≤◌, ◌⊎◌, ◌==◌, ◌&&◌, ◌||◌, if◌then◌else◌, ℕ, Bool, true, false, T, List, [], ◌∷◌, Option, map, nat_le, nat_lt, not}
+use Rattle.std.proofs.Common.{refl, subst, sym}
 use Rattle.std.specs.Coded.{Coded, code_by, coded×, coded_ℕ}
 use Rattle.std.specs.FinMap as finite
-use Rattle.std.specs.FinMap.{FinMap, entries, from_sorted, get, is_sorted}
-use Rattle.std.specs.List.{AllByRecursion, fold}
+use Rattle.std.specs.FinMap.{FinMap, entries, entries-from_sorted, from_sorted, is_sorted}
+use Rattle.std.specs.FinMap.Entries.{put}
+use Rattle.std.specs.List.{AllByRecursion, filter, fold, list_all}
 use Rattle.std.specs.Option.{unwrap_or}
-use Rattle.std.specs.Ordering.{nat_cmp, ordering_then}
+use Rattle.std.specs.Ordering.{eq_by_cmp, nat_cmp, ordering_then}
+use base.Stored.{coded_via}
+use mathlib.Core.Bool.{Bool-set}
+use mathlib.Core.HLevel.{Σ_prop_path}
 use Rattle.std.specs.declared.cmp.Ordering.{Ordering}
 use Rattle.tabled_grid.specs.declared.config.position.Position.{Position}
 use Rattle.tabled_grid.specs.declared.config.rectangle.Rectangle.{Rectangle}
@@ -39,9 +44,18 @@ of_pairs ps = map (λ (p : Position × Size). rectangle p.0 p.1) ps
 abbrev pub AreSorted : List Rectangle → Type 0
 AreSorted es = T (is_sorted position_cmp (pairs es))
 
--- anchors, and the size of the rectangle of each
-abbrev pub SpanMap : Type 0
-SpanMap = FinMap position_cmp Size
+-- the size is that of more than one cell
+abbrev pub is_span : Size → Bool
+is_span size = (nat_le 1 size.height && nat_le 1 size.width) && (nat_lt 1 size.height || nat_lt 1 size.width)
+
+-- all sizes of a list are
+abbrev pub have_spans : List (Position × Size) → Bool
+have_spans ps = list_all (λ (p : Position × Size). is_span p.1) ps
+
+-- anchors, and the size of the rectangle of each, which is that of more than one cell
+pub record SpanMap : Type 0 where
+  pub anchors : FinMap position_cmp Size
+  pub proper : have_spans (entries anchors) ≡ true
 
 -- a place is stored as the pair of its row and its column
 abbrev pub position_code : Coded Position
@@ -51,17 +65,54 @@ position_code = code_by (ℕ × ℕ) (coded× coded_ℕ coded_ℕ) (λ p. (p.row
 abbrev pub size_code : Coded Size
 size_code = code_by (ℕ × ℕ) (coded× coded_ℕ coded_ℕ) (λ s. (s.height, s.width)) (λ pair. sized pair.0 pair.1) (λ _. refl)
 
+-- maps with the same anchors and sizes are one
+pub same_spans : (m n : SpanMap) → m.anchors ≡ n.anchors → m ≡ n
+same_spans m n e =
+    let both : ◌≡◌ {A = (a : FinMap position_cmp Size) × (have_spans (entries a) ≡ true)} (m.anchors, m.proper) (n.anchors, n.proper) = Σ_prop_path (λ a. Bool-set _ _) e in
+    λ i. record { anchors = (both i).0; proper = (both i).1 }
+
 -- a map is stored as its anchors with their sizes
 abbrev pub span_code : Coded SpanMap
-span_code = finite.code position_code size_code
+span_code = coded_via (finite.code position_code size_code) (λ (m : SpanMap). m.anchors) same_spans
+
+-- nothing is merged
+pub empty : SpanMap
+empty = record { anchors = from_sorted []; proper = subst (λ ps. have_spans ps ≡ true) (sym (entries-from_sorted position_cmp [] tt)) refl }
+
+checked : (a : FinMap position_cmp Size) (b : Bool) → have_spans (entries a) ≡ b → SpanMap
+checked a true e = record { anchors = a; proper = e }
+checked a false e = empty
+
+-- the map of anchors and sizes, where each is that of more than one cell, and else the empty one
+pub spans_of : FinMap position_cmp Size → SpanMap
+spans_of a = checked a _ refl
+
+anchors-checked : (a : FinMap position_cmp Size) (b : Bool) (e : have_spans (entries a) ≡ b) → T b → (checked a b e).anchors ≡ a
+unfolding checked
+anchors-checked a true e h = refl
+anchors-checked a false e h = absurd h
+
+-- that map has them where each is
+pub anchors-spans_of : (a : FinMap position_cmp Size) → have_spans (entries a) ≡ true → (spans_of a).anchors ≡ a
+unfolding spans_of
+anchors-spans_of a h = anchors-checked a _ refl (subst T (sym h) tt)
+
+-- the empty one is the map of none
+pub empty-is : empty ≡ spans_of (from_sorted [])
+unfolding empty
+empty-is = same_spans _ _ (sym (anchors-spans_of (from_sorted []) (empty.proper)))
 
 -- all rectangles, row by row
 abbrev pub rectangles : SpanMap → List Rectangle
-rectangles m = of_pairs (entries m)
+rectangles m = of_pairs (entries m.anchors)
 
--- the map of rectangles, which are given row by row
+-- the map of rectangles of more than one cell each, which are given row by row
 abbrev pub map_of : List Rectangle → SpanMap
-map_of es = from_sorted (pairs es)
+map_of es = spans_of (from_sorted (pairs es))
+
+-- the size of the rectangle that is anchored at a place
+abbrev pub get : SpanMap → Position → Option Size
+get m p = finite.get m.anchors p
 
 -- the size at a place, that of one cell where there is no anchor
 abbrev pub size_at : SpanMap → Position → Size
@@ -73,18 +124,31 @@ pub record IsSpanSize (size : Size) : Type 0 where
   pub width : 1 ≤ size.width
   pub merges : (1 < size.height) ⊎ (1 < size.width)
 
--- each size that a map has is that of more than one cell
-pub record AreSpanSizes (m : SpanMap) : Type 0 where
-  pub each : (p : Position) (size : Size) → get m p ≡ Some size → IsSpanSize size
-
 -- rectangles of more than one cell each, row by row
 pub record AreAnchors (anchors : List Rectangle) : Type 0 where
   pub sorted : AreSorted anchors
   pub sizes : AllByRecursion (λ (anchor : Rectangle). IsSpanSize anchor.size) anchors
 
--- the map with a size at a place, where the size of one cell is no anchor
+-- the map with a size of more than one cell at a place
+abbrev pub insert : SpanMap → Position → Size → SpanMap
+insert m p size = map_of (of_pairs (put position_cmp p size (pairs (rectangles m))))
+
+-- the map of rectangles of more than one cell each, of which the first one at a place counts
+abbrev pub from_rectangles : List Rectangle → SpanMap
+from_rectangles [] = empty
+from_rectangles (e ∷ es) = insert (from_rectangles es) e.first e.size
+
+-- the map with those anchors alone whose places pass a test
+abbrev pub retain : SpanMap → (Position → Bool) → SpanMap
+retain m test = map_of (filter (λ (e : Rectangle). test e.first) (rectangles m))
+
+-- the map without an anchor at a place
+abbrev pub remove : SpanMap → Position → SpanMap
+remove m p = retain m (λ q. not (eq_by_cmp position_cmp p q))
+
+-- the map with a size at a place, where only the size of more than one cell is an anchor
 abbrev pub with_size : SpanMap → Position → Size → SpanMap
-with_size m p size = if is_cell size then finite.remove m p else finite.insert m p size
+with_size m p size = if is_span size then insert m p size else remove m p
 
 -- a height and a width of at least 1, at some place
 pub record IsSizeAt (change : Rectangle) : Type 0 where

@@ -1,7 +1,6 @@
 //! Laws of what the calls of stores say they do. Each is the contract of a function that does nothing.
 
 ghost use Rattle.std.specs.Prelude.{◌≡◌, ◌+◌, ◌<◌, ◌≤◌, ℕ, Some, false, true};
-ghost use Rattle.std.specs.FinMap as map;
 ghost use Rattle.std.specs.Ordering.{nat_cmp};
 ghost use Rattle.std.specs.declared.cmp.Ordering.TheVariants.{Less};
 ghost use Rattle.tabled_grid.specs.Entity.{place};
@@ -10,7 +9,7 @@ ghost use Rattle.tabled_grid.specs.Hidden.{drop_hidden, is_visible};
 ghost use Rattle.tabled_grid.specs.Fitting.{Fits};
 ghost use Rattle.tabled_grid.specs.Axis.{line_of};
 ghost use Rattle.tabled_grid.specs.Shifts.{is_crossed, shifted};
-ghost use Rattle.tabled_grid.specs.Spans.{AreSpanSizes, IsSpanSize, SpanMap, position_cmp, rectangle, size_at, with_column_span, with_row_span, with_size};
+ghost use Rattle.tabled_grid.specs.Spans.{IsSpanSize, SpanMap, get, position_cmp, rectangle, size_at, with_column_span, with_row_span, with_size};
 ghost use Rattle.tabled_grid.specs.declared.config.position.Position.{Position};
 ghost use Rattle.tabled_grid.specs.declared.config.entity.Entity.TheVariants.{Cell, Column, Global, Row};
 ghost use Rattle.tabled_grid.specs.declared.config.offset.Offset.TheVariants.{End, Start};
@@ -74,13 +73,13 @@ pub fn spans_over_visible_cells_fit_once_hidden_anchors_go()
 
 /// Where all heights are 1, widths may be set over any cells, hidden ones too. Heights alike.
 pub fn flat_spans_fit_once_hidden_anchors_go()
-    ensures flat { (m : SpanMap) (rows columns : ℕ) → AreSpanSizes m → Flat (size_at m) → LieWithin (size_at m) rows columns → Fits (drop_hidden m) rows columns × Flat (size_at (drop_hidden m)) }
-    ensures narrow { (m : SpanMap) (rows columns : ℕ) → AreSpanSizes m → Narrow (size_at m) → LieWithin (size_at m) rows columns → Fits (drop_hidden m) rows columns × Narrow (size_at (drop_hidden m)) }
+    ensures flat { (m : SpanMap) (rows columns : ℕ) → Flat (size_at m) → LieWithin (size_at m) rows columns → Fits (drop_hidden m) rows columns × Flat (size_at (drop_hidden m)) }
+    ensures narrow { (m : SpanMap) (rows columns : ℕ) → Narrow (size_at m) → LieWithin (size_at m) rows columns → Fits (drop_hidden m) rows columns × Narrow (size_at (drop_hidden m)) }
 {}
 
 /// A rectangle over cells that no other has keeps merged cells inside and apart.
 pub fn a_rectangle_over_free_cells_fits()
-    ensures { (m : SpanMap) (p : Position) (size : Size) (rows columns : ℕ) → IsSpanSize size → p.row + size.height ≤ rows → p.col + size.width ≤ columns → ((a q : Position) (s : Size) → map.get m a ≡ Some s → In (rectangle a s) q → In (rectangle p size) q → a ≡ p) → Fits m rows columns → Fits (with_size m p size) rows columns }
+    ensures { (m : SpanMap) (p : Position) (size : Size) (rows columns : ℕ) → IsSpanSize size → p.row + size.height ≤ rows → p.col + size.width ≤ columns → ((a q : Position) (s : Size) → get m a ≡ Some s → In (rectangle a s) q → In (rectangle p size) q → a ≡ p) → Fits m rows columns → Fits (with_size m p size) rows columns }
 {}
 
 /// Rectangles that don't cross a line which is put in fit the table with one line more, and leave that
@@ -88,5 +87,5 @@ pub fn a_rectangle_over_free_cells_fits()
 pub fn shifted_rectangles_fit()
     ensures rows { (m : SpanMap) (line rows columns : ℕ) → is_crossed Rows line m ≡ false → Fits m rows columns → Fits (shifted Rows line m) (rows + 1) columns }
     ensures columns { (m : SpanMap) (line rows columns : ℕ) → is_crossed Columns line m ≡ false → Fits m rows columns → Fits (shifted Columns line m) rows (columns + 1) }
-    ensures free { (axis : Axis) (m : SpanMap) (line : ℕ) (a q : Position) (size : Size) → is_crossed axis line m ≡ false → map.get (shifted axis line m) a ≡ Some size → In (rectangle a size) q → line_of axis q ≡ line → ⊥ }
+    ensures free { (axis : Axis) (m : SpanMap) (line : ℕ) (a q : Position) (size : Size) → is_crossed axis line m ≡ false → get (shifted axis line m) a ≡ Some size → In (rectangle a size) q → line_of axis q ≡ line → ⊥ }
 {}

@@ -1,5 +1,5 @@
 -- Scripts without the words of tables mean what their records and steps say.
-use Rattle.tabled_language.proofs.Common.{[], ◌++◌, ◌||◌, ◌∙◌, ◌∷◌, ◌≡◌, AllByRecursion, Bool, EmptyLine, Err, Fault, FaultyLine, Grid, Line, List, None, Ok, Option, OutOfPlace, RecordLine, Rectangle, Result, Script, ShapeLine, Some, SpanLine, SpanMap, State, StepLine, all-append, anchor_in, ap, ap₂, behind, bytes_eq, codes, cond, empty, false, fault_among, fault_of, filter_map, first_fault, spans_of, is_in_place, lines_of, list_any, map, meaning_of, not, option_or, or_parts, parse, record_in, refl, says, says_line, script_or_fault, shape_fault, shape_in, span_fault, step_in, step_line, steps, sym, table_from, texts_of, true, whole, words_of, ℕ}
+use Rattle.tabled_language.proofs.Common.{[], ◌++◌, ◌||◌, ◌∙◌, ◌∷◌, ◌≡◌, AllByRecursion, Bool, EmptyLine, Err, Fault, FaultyLine, Grid, Line, List, None, Ok, Option, OutOfPlace, RecordLine, Rectangle, Result, Script, ShapeLine, Some, SpanLine, SpanMap, State, StepLine, all-append, anchor_in, ap, ap₂, behind, bytes_eq, codes, cond, empty, false, fault_among, fault_of, filter_map, first_fault, from_rectangles, is_in_place, lines_of, list_any, map, meaning_of, not, option_or, or_parts, parse, record_in, refl, says, says_line, script_or_fault, shape_fault, shape_in, span_fault, step_in, step_line, steps, sym, table_from, texts_of, true, whole, words_of, ℕ}
 use Rattle.tabled_language.specs.Bare.{begin_a_table, has_either_word, is_step, bare_fault, bare_line_of, bare_meaning_of, bare_parse, bare_script, says_record_or_step}
 use Rattle.tabled_language.proofs.LooseLines.{loose_place}
 
@@ -31,7 +31,7 @@ lines-bare (line ∷ lines) none =
 
 is_bare : (line : List ℕ) → IsBare (bare_line_of line)
 is_bare [] = tt
-is_bare (b ∷ bs) = by (texts_of (words_of (b ∷ bs)))
+is_bare (b ∷ bs) = meaning_bare (texts_of (words_of (b ∷ bs)))
   where
     step : (read : Result (State → State) Fault) → IsBare (step_line read)
     step (Ok made) = tt
@@ -41,10 +41,10 @@ is_bare (b ∷ bs) = by (texts_of (words_of (b ∷ bs)))
     verb true texts line bare = tt
     verb false texts line bare = bare
 
-    by : (texts : Option (List (List ℕ))) → IsBare (bare_meaning_of texts)
-    by None = tt
-    by (Some []) = tt
-    by (Some (first ∷ texts)) = verb (bytes_eq first (codes "row")) texts (step_line (whole (behind steps first) texts)) (step (whole (behind steps first) texts))
+    meaning_bare : (texts : Option (List (List ℕ))) → IsBare (bare_meaning_of texts)
+    meaning_bare None = tt
+    meaning_bare (Some []) = tt
+    meaning_bare (Some (first ∷ texts)) = verb (bytes_eq first (codes "row")) texts (step_line (whole (behind steps first) texts)) (step (whole (behind steps first) texts))
 
 all_bare : (lines : List (List ℕ)) → AllByRecursion IsBare (map bare_line_of lines)
 all_bare [] = tt
@@ -112,7 +112,7 @@ among-bare lines bare =
     ap₂ (λ (a b : Option (ℕ × Fault)). option_or (first_fault fault_of [] lines) (option_or a b)) (quiet (shape_fault g) (no_shape g) [] lines bare) (quiet (span_fault g) (no_span g) [] lines bare)
     ∙ none_behind (first_fault fault_of [] lines) ∙ faults-bare [] lines tt bare
 
-either_way : (lines : List Line) (o : Option (ℕ × Fault)) → fault_among lines ≡ o → script_or_fault lines ≡ scripted lines o (spans_of (filter_map anchor_in lines))
+either_way : (lines : List Line) (o : Option (ℕ × Fault)) → fault_among lines ≡ o → script_or_fault lines ≡ scripted lines o (from_rectangles (filter_map anchor_in lines))
 either_way lines None is = rw is refl
 either_way lines (Some fault) is = rw is refl
 
@@ -124,7 +124,7 @@ script-bare : (lines : List Line) → AllByRecursion IsBare lines → script_or_
 script-bare lines bare =
     let first = first_fault bare_fault [] lines in
     either_way lines first (among-bare lines bare)
-    ∙ ap (λ (es : List Rectangle). scripted lines first (spans_of es)) (no_anchors lines bare)
+    ∙ ap (λ (es : List Rectangle). scripted lines first (from_rectangles es)) (no_anchors lines bare)
     ∙ sym (bare_way lines first refl)
 
 -- a script in which no line begins with `shape` or `span` means what it meant

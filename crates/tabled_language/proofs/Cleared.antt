@@ -8,11 +8,11 @@ module _ (old m : BTreeMap ℕ Rectangle) (e : Rectangle) (keyed : AreKeyed old)
 
   -- none begins before the end
   pub clear-none : NoneBefore m (e.first.col + e.size.width) → IsClear old e
-  clear-none none q f is = by (drops.stays q f is)
+  clear-none none q f is = unless_above (drops.stays q f is)
     where
-      by : EndsAbove e.first.row f ⊎ (get nat_cmp m q ≡ Some f) → EndsAbove e.first.row f ⊎ IsBeside e f
-      by (inl above) = inl above
-      by (inr still) = at (cases_lt q (e.first.col + e.size.width))
+      unless_above : EndsAbove e.first.row f ⊎ (get nat_cmp m q ≡ Some f) → EndsAbove e.first.row f ⊎ IsBeside e f
+      unless_above (inl above) = inl above
+      unless_above (inr still) = at (cases_lt q (e.first.col + e.size.width))
         where
           at : (q < e.first.col + e.size.width) ⊎ (e.first.col + e.size.width ≤ q) → EndsAbove e.first.row f ⊎ IsBeside e f
           at (inl within) = absurd (none-some f (sym (none q within) ∙ still))
@@ -20,7 +20,7 @@ module _ (old m : BTreeMap ℕ Rectangle) (e : Rectangle) (keyed : AreKeyed old)
 
   -- the last one that does reaches the row, so it decides
   pub clear-last : (near : Rectangle) (b : Bool) → IsLastBefore m (e.first.col + e.size.width) near → e.first.row < near.first.row + near.size.height → b ≡ nat_le (near.first.col + near.size.width) e.first.col → MatchBool b (IsClear old e) (IsMet old e)
-  clear-last near b last reach told = by b told
+  clear-last near b last reach told = decided b told
     where
       here : get nat_cmp old last.0 ≡ Some near
       here = drops.had last.0 near last.2
@@ -29,7 +29,7 @@ module _ (old m : BTreeMap ℕ Rectangle) (e : Rectangle) (keyed : AreKeyed old)
       at = keyed last.0 near (drops.had last.0 near last.2)
 
       clear : near.first.col + near.size.width ≤ e.first.col → IsClear old e
-      clear ends r f is = go (drops.stays r f is)
+      clear ends r f is = unless_above (drops.stays r f is)
         where
           near_is : get nat_cmp m r ≡ Some f → r ≡ last.0 → f ≡ near
           near_is still same = same_Some f near (sym still ∙ ap (get nat_cmp m) same ∙ last.2)
@@ -44,16 +44,16 @@ module _ (old m : BTreeMap ℕ Rectangle) (e : Rectangle) (keyed : AreKeyed old)
           order still (inr from) (inl behind) (inr after) = past r f still after
           order still (inr from) (inr to) within = subst (λ (a : Rectangle). EndsAbove e.first.row a ⊎ IsBeside e a) (sym (near_is still (omega (arith, from, to)))) (inr (inl ends))
 
-          go : EndsAbove e.first.row f ⊎ (get nat_cmp m r ≡ Some f) → EndsAbove e.first.row f ⊎ IsBeside e f
-          go (inl above) = inl above
-          go (inr still) = order still (cases_lt r last.0) (cases_lt last.0 r) (cases_lt r (e.first.col + e.size.width))
+          unless_above : EndsAbove e.first.row f ⊎ (get nat_cmp m r ≡ Some f) → EndsAbove e.first.row f ⊎ IsBeside e f
+          unless_above (inl above) = inl above
+          unless_above (inr still) = order still (cases_lt r last.0) (cases_lt last.0 r) (cases_lt r (e.first.col + e.size.width))
 
       met : e.first.col < near.first.col + near.size.width → IsMet old e
       met over = (last.0, near, here, reach, omega (arith, at, last.1), over)
 
-      by : (c : Bool) → c ≡ nat_le (near.first.col + near.size.width) e.first.col → MatchBool c (IsClear old e) (IsMet old e)
-      by true is = clear (leb-true _ _ (sym is))
-      by false is = met (leb-false _ _ (sym is))
+      decided : (c : Bool) → c ≡ nat_le (near.first.col + near.size.width) e.first.col → MatchBool c (IsClear old e) (IsMet old e)
+      decided true is = clear (leb-true _ _ (sym is))
+      decided false is = met (leb-false _ _ (sym is))
 
   -- one that ends above is taken away
   pub drops-less : (near : Rectangle) (new : BTreeMap ℕ Rectangle) → IsLastBefore m (e.first.col + e.size.width) near → EndsAbove e.first.row near → ((q : ℕ) → get nat_cmp new q ≡ cond (is_eq (nat_cmp near.first.col q)) None (get nat_cmp m q)) → DropsEnded e.first.row old new
@@ -68,13 +68,13 @@ module _ (old m : BTreeMap ℕ Rectangle) (e : Rectangle) (keyed : AreKeyed old)
 
       gone : (q : ℕ) (f : Rectangle) → EndsAbove e.first.row f ⊎ (get nat_cmp m q ≡ Some f) → EndsAbove e.first.row f ⊎ (get nat_cmp new q ≡ Some f)
       gone q f (inl over) = inl over
-      gone q f (inr still) = by (is_eq (nat_cmp near.first.col q)) refl
+      gone q f (inr still) = unless_taken (is_eq (nat_cmp near.first.col q)) refl
         where
-          by : (b : Bool) → is_eq (nat_cmp near.first.col q) ≡ b → EndsAbove e.first.row f ⊎ (get nat_cmp new q ≡ Some f)
-          by true t =
+          unless_taken : (b : Bool) → is_eq (nat_cmp near.first.col q) ≡ b → EndsAbove e.first.row f ⊎ (get nat_cmp new q ≡ Some f)
+          unless_taken true t =
               let same : near.first.col ≡ q = grind (arith, nat_tests) in
               inl (subst (λ (a : Rectangle). EndsAbove e.first.row a) (sym (same_Some f near (sym still ∙ ap (get nat_cmp m) (sym same ∙ at) ∙ last.2))) above)
-          by false t = inr (put q ∙ ap (λ b. cond b None (get nat_cmp m q)) t ∙ still)
+          unless_taken false t = inr (put q ∙ ap (λ b. cond b None (get nat_cmp m q)) t ∙ still)
 
 -- something was taken away
 pub smaller : (r : Option Rectangle) (near : Rectangle) (n k : ℕ) → n + cond (is_some r) 1 0 ≡ k → r ≡ Some near → n < k

@@ -61,25 +61,25 @@ refused fault false e = cc
 
 -- a line without a fault is sound
 pub sound_line : (lines : List Line) (line : Line) → fault_of lines line ≡ None → IsSound line
-sound_line lines line fine = by line (is_in_place lines line) fine
+sound_line lines line fine = sound_words line (is_in_place lines line) fine
   where
-    by : (line : Line) (b : Bool) → cond b (words_fault line) (Some OutOfPlace) ≡ None → IsSound line
-    by EmptyLine b e = tt
-    by (ShapeLine (Ok shape)) b e = tt
-    by (ShapeLine (Err fault)) b e = refused fault b e
-    by (RecordLine texts) b e = tt
-    by (SpanLine (Ok anchor)) b e = tt
-    by (SpanLine (Err fault)) b e = refused fault b e
-    by (StepLine step) b e = tt
-    by (FaultyLine fault) b e = refused fault b e
+    sound_words : (line : Line) (b : Bool) → cond b (words_fault line) (Some OutOfPlace) ≡ None → IsSound line
+    sound_words EmptyLine b e = tt
+    sound_words (ShapeLine (Ok shape)) b e = tt
+    sound_words (ShapeLine (Err fault)) b e = refused fault b e
+    sound_words (RecordLine texts) b e = tt
+    sound_words (SpanLine (Ok anchor)) b e = tt
+    sound_words (SpanLine (Err fault)) b e = refused fault b e
+    sound_words (StepLine step) b e = tt
+    sound_words (FaultyLine fault) b e = refused fault b e
 
 -- what no fault of several lines says of the first one and of the others
 parts_none : (fault_at : List Line → Line → Option Fault) (earlier : List Line) (line : Line) (lines : List Line) → first_fault fault_at earlier (line ∷ lines) ≡ None → (fault_at earlier line ≡ None) × (first_fault fault_at (earlier ++ line ∷ []) lines ≡ None)
-parts_none fault_at earlier line lines none = by (fault_at earlier line) refl
+parts_none fault_at earlier line lines none = by_fault (fault_at earlier line) refl
   where
-    by : (o : Option Fault) → fault_at earlier line ≡ o → (fault_at earlier line ≡ None) × (first_fault fault_at (earlier ++ line ∷ []) lines ≡ None)
-    by None e = (e, rw e at none)
-    by (Some fault) e = let has = rw e at none in cc
+    by_fault : (o : Option Fault) → fault_at earlier line ≡ o → (fault_at earlier line ≡ None) × (first_fault fault_at (earlier ++ line ∷ []) lines ≡ None)
+    by_fault None e = (e, rw e at none)
+    by_fault (Some fault) e = let has = rw e at none in cc
 
 -- no shape may stand after these lines
 Blocked : List Line → Type 0
@@ -98,34 +98,34 @@ unfolding Blocked
 none_behind g [] earlier blocked fine = refl
 none_behind g (line ∷ lines) earlier blocked fine =
     let parts = parts_none fault_of earlier line lines fine in
-    by line parts.0 (none_behind g lines (earlier ++ line ∷ []) (blocked-push earlier line blocked) parts.1)
+    line_passed line parts.0 (none_behind g lines (earlier ++ line ∷ []) (blocked-push earlier line blocked) parts.1)
   where
-    by : (l : Line) → fault_of earlier l ≡ None → first_fault (shape_fault g) (earlier ++ l ∷ []) lines ≡ None → first_fault (shape_fault g) earlier (l ∷ lines) ≡ None
-    by EmptyLine e later = later
-    by (ShapeLine read) e later = let out : Some OutOfPlace ≡ None = sym (ap (λ b. cond b (words_fault (ShapeLine read)) (Some OutOfPlace)) (blocked read)) ∙ e in cc
-    by (RecordLine texts) e later = later
-    by (SpanLine read) e later = later
-    by (StepLine step) e later = later
-    by (FaultyLine fault) e later = later
+    line_passed : (l : Line) → fault_of earlier l ≡ None → first_fault (shape_fault g) (earlier ++ l ∷ []) lines ≡ None → first_fault (shape_fault g) earlier (l ∷ lines) ≡ None
+    line_passed EmptyLine e later = later
+    line_passed (ShapeLine read) e later = let out : Some OutOfPlace ≡ None = sym (ap (λ b. cond b (words_fault (ShapeLine read)) (Some OutOfPlace)) (blocked read)) ∙ e in cc
+    line_passed (RecordLine texts) e later = later
+    line_passed (SpanLine read) e later = later
+    line_passed (StepLine step) e later = later
+    line_passed (FaultyLine fault) e later = later
 
 shape_behind : (g : Grid (List ℕ)) (lines earlier : List Line) → first_fault fault_of earlier lines ≡ None → first_fault (shape_fault g) earlier lines ≡ shape_misfit g (shape_among (length earlier) lines)
 shape_behind g [] earlier fine = refl
 shape_behind g (line ∷ lines) earlier fine =
     let parts = parts_none fault_of earlier line lines fine in
-    by line parts.0 parts.1 (shape_behind g lines (earlier ++ line ∷ []) parts.1 ∙ ap (λ n. shape_misfit g (shape_among n lines)) (length-append earlier (line ∷ [])))
+    line_told line parts.0 parts.1 (shape_behind g lines (earlier ++ line ∷ []) parts.1 ∙ ap (λ n. shape_misfit g (shape_among n lines)) (length-append earlier (line ∷ [])))
   where
-    by : (l : Line) → fault_of earlier l ≡ None → first_fault fault_of (earlier ++ l ∷ []) lines ≡ None → first_fault (shape_fault g) (earlier ++ l ∷ []) lines ≡ shape_misfit g (shape_among (length earlier + 1) lines) → first_fault (shape_fault g) earlier (l ∷ lines) ≡ shape_misfit g (shape_among (length earlier) (l ∷ lines))
-    by EmptyLine e others later = later
-    by (ShapeLine (Ok shape)) e others later = test ((eqb shape.0 g.rows) && (eqb shape.1 g.columns)) refl
+    line_told : (l : Line) → fault_of earlier l ≡ None → first_fault fault_of (earlier ++ l ∷ []) lines ≡ None → first_fault (shape_fault g) (earlier ++ l ∷ []) lines ≡ shape_misfit g (shape_among (length earlier + 1) lines) → first_fault (shape_fault g) earlier (l ∷ lines) ≡ shape_misfit g (shape_among (length earlier) (l ∷ lines))
+    line_told EmptyLine e others later = later
+    line_told (ShapeLine (Ok shape)) e others later = test ((eqb shape.0 g.rows) && (eqb shape.1 g.columns)) refl
       where
         test : (b : Bool) → ((eqb shape.0 g.rows) && (eqb shape.1 g.columns)) ≡ b → first_fault (shape_fault g) earlier (ShapeLine (Ok shape) ∷ lines) ≡ shape_misfit g (shape_among (length earlier) (ShapeLine (Ok shape) ∷ lines))
         test true t = rw t (none_behind g lines (earlier ++ ShapeLine (Ok shape) ∷ []) (blocked_by earlier shape) others)
         test false t = rw t refl
-    by (ShapeLine (Err fault)) e others later = refused fault (is_in_place earlier (ShapeLine (Err fault))) e
-    by (RecordLine texts) e others later = later
-    by (SpanLine read) e others later = later
-    by (StepLine step) e others later = later
-    by (FaultyLine fault) e others later = later
+    line_told (ShapeLine (Err fault)) e others later = refused fault (is_in_place earlier (ShapeLine (Err fault))) e
+    line_told (RecordLine texts) e others later = later
+    line_told (SpanLine read) e others later = later
+    line_told (StepLine step) e others later = later
+    line_told (FaultyLine fault) e others later = later
 
 -- so the draft tells whether the shape is that of a table
 pub shape_told : (g : Grid (List ℕ)) (lines : List Line) → first_fault fault_of [] lines ≡ None → first_fault (shape_fault g) [] lines ≡ shape_misfit g (draft_of lines).shape

@@ -1,16 +1,16 @@
 -- Scripts with shapes and spans, read.
-use Rattle.tabled_language.proofs.Common.{[], ◌∙◌, ◌∷◌, ◌≡◌, Err, List, Ok, Rectangle, ap, codes, parse, place, print, refl, sized, start, ℕ, rectangle, rectangles, rectangles-map_of, spans_of}
+use Rattle.tabled_language.proofs.Common.{[], ◌∙◌, ◌∷◌, ◌≡◌, AreAnchors, Err, List, Ok, Rectangle, ap, codes, listed-spans, pairs, parse, place, print, refl, sized, start, ℕ, rectangle, rectangles, rectangles-map_of, from_rectangles}
 use Rattle.std.specs.Str.{chars, is_utf8}
 use Rattle.std.specs.Fmt.{digits}
 use Rattle.tabled_language.specs.declared.fault.Fault.TheVariants as fault
 use Rattle.tabled_language.proofs.BackToAnchors.{sorted_map}
 
 -- a shape without columns, and one of nothing
-no_columns : parse (codes "shape\t2\t0\nrow\nrow\n") ≡ Ok (record { records = [] ∷ [] ∷ []; spans = spans_of []; steps = [] })
+no_columns : parse (codes "shape\t2\t0\nrow\nrow\n") ≡ Ok (record { records = [] ∷ [] ∷ []; spans = from_rectangles []; steps = [] })
 unfolding is_utf8 chars lib.Utf8.encode
 no_columns = refl
 
-no_rows : parse (codes "shape\t0\t0\n") ≡ Ok (record { records = []; spans = spans_of []; steps = [] })
+no_rows : parse (codes "shape\t0\t0\n") ≡ Ok (record { records = []; spans = from_rectangles []; steps = [] })
 unfolding is_utf8 chars lib.Utf8.encode
 no_rows = refl
 
@@ -46,7 +46,7 @@ unfolding is_utf8 chars lib.Utf8.encode
 shape_behind_row = refl
 
 -- merged cells
-spanned : parse (codes "row\ta\tb\nspan\t0\t0\t1\t2\n") ≡ Ok (record { records = (codes "a" ∷ codes "b" ∷ []) ∷ []; spans = spans_of (rectangle (place 0 0) (sized 1 2) ∷ []); steps = [] })
+spanned : parse (codes "row\ta\tb\nspan\t0\t0\t1\t2\n") ≡ Ok (record { records = (codes "a" ∷ codes "b" ∷ []) ∷ []; spans = from_rectangles (rectangle (place 0 0) (sized 1 2) ∷ []); steps = [] })
 unfolding is_utf8 chars lib.Utf8.encode
 spanned = refl
 
@@ -87,7 +87,7 @@ unfolding is_utf8 chars lib.Utf8.encode
 at_width = refl
 
 -- a span may stand before any step, and a shape after empty lines
-shape_behind_nothing : parse (codes "\n\nshape\t1\t1\n\nrow\ta\n") ≡ Ok (record { records = (codes "a" ∷ []) ∷ []; spans = spans_of []; steps = [] })
+shape_behind_nothing : parse (codes "\n\nshape\t1\t1\n\nrow\ta\n") ≡ Ok (record { records = (codes "a" ∷ []) ∷ []; spans = from_rectangles []; steps = [] })
 unfolding is_utf8 chars lib.Utf8.encode
 shape_behind_nothing = refl
 
@@ -114,30 +114,35 @@ rows =
 anchors : List Rectangle
 anchors = rectangle (place 0 0) (sized 1 4) ∷ rectangle (place 1 1) (sized 3 1) ∷ []
 
-table_read : parse printed ≡ Ok (record { records = rows; spans = spans_of anchors; steps = [] })
+table_read : parse printed ≡ Ok (record { records = rows; spans = from_rectangles anchors; steps = [] })
 unfolding is_utf8 chars lib.Utf8.encode printed rows anchors
 table_read = refl
 
-anchors_again : rectangles (spans_of anchors) ≡ anchors
+anchors_valid : AreAnchors anchors
 unfolding anchors
-anchors_again = ap rectangles (sorted_map anchors tt) ∙ rectangles-map_of anchors tt
+anchors_valid = record { sorted = tt; sizes = listed-spans (pairs anchors) refl }
+
+anchors_again : rectangles (from_rectangles anchors) ≡ anchors
+anchors_again = ap rectangles (sorted_map anchors anchors_valid) ∙ rectangles-map_of anchors anchors_valid
 
 -- it is written again
-table_again : print (start (record { records = rows; spans = spans_of anchors; steps = [] })) ≡ printed
+table_again : print (start (record { records = rows; spans = from_rectangles anchors; steps = [] })) ≡ printed
 unfolding digits printed rows anchors
 table_again = rw anchors_again refl
 
 -- another one
-blank_cell : parse (codes "shape\t2\t2\nrow\ta\tx\nrow\tc\t\nspan\t1\t0\t1\t2\n") ≡ Ok (record { records = (codes "a" ∷ codes "x" ∷ []) ∷ (codes "c" ∷ [] ∷ []) ∷ []; spans = spans_of (rectangle (place 1 0) (sized 1 2) ∷ []); steps = [] })
+blank_cell : parse (codes "shape\t2\t2\nrow\ta\tx\nrow\tc\t\nspan\t1\t0\t1\t2\n") ≡ Ok (record { records = (codes "a" ∷ codes "x" ∷ []) ∷ (codes "c" ∷ [] ∷ []) ∷ []; spans = from_rectangles (rectangle (place 1 0) (sized 1 2) ∷ []); steps = [] })
 unfolding is_utf8 chars lib.Utf8.encode
 blank_cell = refl
 
 abbrev blank_cell_anchors : List Rectangle
 blank_cell_anchors = rectangle (place 1 0) (sized 1 2) ∷ []
 
-blank_cell_anchors_again : rectangles (spans_of blank_cell_anchors) ≡ blank_cell_anchors
-blank_cell_anchors_again = ap rectangles (sorted_map blank_cell_anchors tt) ∙ rectangles-map_of blank_cell_anchors tt
+blank_cell_anchors_again : rectangles (from_rectangles blank_cell_anchors) ≡ blank_cell_anchors
+blank_cell_anchors_again =
+    let valid : AreAnchors blank_cell_anchors = record { sorted = tt; sizes = listed-spans (pairs blank_cell_anchors) refl } in
+    ap rectangles (sorted_map blank_cell_anchors valid) ∙ rectangles-map_of blank_cell_anchors valid
 
-blank_cell_again : print (start (record { records = (codes "a" ∷ codes "x" ∷ []) ∷ (codes "c" ∷ [] ∷ []) ∷ []; spans = spans_of (rectangle (place 1 0) (sized 1 2) ∷ []); steps = [] })) ≡ codes "shape\t2\t2\nrow\ta\tx\nrow\tc\t\nspan\t1\t0\t1\t2\n"
+blank_cell_again : print (start (record { records = (codes "a" ∷ codes "x" ∷ []) ∷ (codes "c" ∷ [] ∷ []) ∷ []; spans = from_rectangles (rectangle (place 1 0) (sized 1 2) ∷ []); steps = [] })) ≡ codes "shape\t2\t2\nrow\ta\tx\nrow\tc\t\nspan\t1\t0\t1\t2\n"
 unfolding digits
 blank_cell_again = rw blank_cell_anchors_again refl

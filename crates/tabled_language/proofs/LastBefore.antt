@@ -12,8 +12,8 @@ below_when_before q n is = subst (λ (o : Ordering). MatchOrdering o (q < n) (q 
 
 -- or none after it
 pub none_between : (m : BTreeMap ℕ Rectangle) (n : ℕ) (r t : List (ℕ × Rectangle)) (e : ℕ × Rectangle) → IsRangeOf nat_cmp Unbounded (Excluded n) m r → r ≡ t ++ e ∷ [] → (q : ℕ) → e.0 < q → q < n → get nat_cmp m q ≡ None
-none_between m n r t e h ends q above below = by (get nat_cmp m q) refl
+none_between m n r t e h ends q above below = never_some (get nat_cmp m q) refl
   where
-    by : (o : Option Rectangle) → get nat_cmp m q ≡ o → get nat_cmp m q ≡ None
-    by None is = is
-    by (Some f) is = absurd (false≢true (sym (h.4 e t ends q (tt, before q n below) (ap is_some is)) ∙ ap is_lt (before e.0 q above)))
+    never_some : (o : Option Rectangle) → get nat_cmp m q ≡ o → get nat_cmp m q ≡ None
+    never_some None is = is
+    never_some (Some f) is = absurd (false≢true (sym (h.4 e t ends q (tt, before q n below) (ap is_some is)) ∙ ap is_lt (before e.0 q above)))

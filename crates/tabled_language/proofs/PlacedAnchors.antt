@@ -1,5 +1,5 @@
 -- Rectangles lie well in any order, or in none.
-use Rattle.tabled_language.proofs.Common.{[], ◌&&◌, ◌++◌, ◌+◌, ◌<◌, ◌∙◌, ◌∷◌, ◌≡◌, ◌≤◌, ◌⊎◌, All-from_recursion, All-permutation, AllByRecursion, AreAnchors, AreSorted, AreSpans, Bool, Equal, Greater, IsPermutation-sym, IsSpanSize, Less, List, Ordering, Position, Rectangle, RowsRise, Size, Some, and_from, and_parts, ap, arith, both, cases_Bool, cases_lt, false, false_from_ne_true, false≢true, find_at, get-from_entries, get-map_of, get_or, halves, has_place, is_lt, lie_well, lies_inside, list_all, list_all-append, list_any, lt-ltb, map_of, meets, meets-from, meets-turned, none-some, not, not-true, not_from_false, ordering_reverse, pairs, position_cmp, positions_exact, positions_total, rectangle, recursion_from_All, refl, same_map, spans_of, subst, suc, sym, true, true≢false, ℕ, inl, inr, is_less}
+use Rattle.tabled_language.proofs.Common.{[], ◌&&◌, ◌++◌, ◌+◌, ◌<◌, ◌∙◌, ◌∷◌, ◌≡◌, ◌≤◌, ◌⊎◌, All-from_recursion, All-permutation, AllByRecursion, AreAnchors, AreSorted, AreSpans, Bool, Equal, Greater, IsPermutation-sym, IsSpanSize, Less, List, Ordering, Position, Rectangle, RowsRise, Size, Some, and_from, and_parts, ap, arith, both, cases_Bool, cases_lt, false, false_from_ne_true, false≢true, find_at, get-from_rectangles, get-map_of, get_or, halves, has_place, is_lt, lie_well, lies_inside, list_all, list_all-append, list_any, lt-ltb, map_of, meets, meets-from, meets-turned, none-some, not, not-true, not_from_false, ordering_reverse, position_cmp, positions_exact, positions_total, rectangle, recursion_from_All, refl, same_map, from_rectangles, subst, suc, sym, true, true≢false, ℕ, inl, inr, is_less}
 use Rattle.std.specs.Prelude.{◌||◌, None, Option}
 use Rattle.std.proofs.Math.Numerals.{add-one}
 use Rattle.std.specs.List.{IsDistinct}
@@ -87,11 +87,11 @@ module _ (rows columns : ℕ) where
 
   -- rectangles lie well just where they do in order
   pub told : (es fs : List Rectangle) → IsPermutation es fs → lie_well rows columns fs ≡ lie_well rows columns es
-  told es fs moved = by (cases_Bool (lie_well rows columns fs))
+  told es fs moved = well_or_not (cases_Bool (lie_well rows columns fs))
     where
-      by : (lie_well rows columns fs ≡ true) ⊎ (lie_well rows columns fs ≡ false) → lie_well rows columns fs ≡ lie_well rows columns es
-      by (inl well) = well ∙ sym (well-moved fs es (IsPermutation-sym es fs moved) well)
-      by (inr not_well) = not_well ∙ sym (false_from_ne_true _ (λ well. true≢false (sym (well-moved es fs moved well) ∙ not_well)))
+      well_or_not : (lie_well rows columns fs ≡ true) ⊎ (lie_well rows columns fs ≡ false) → lie_well rows columns fs ≡ lie_well rows columns es
+      well_or_not (inl well) = well ∙ sym (well-moved fs es (IsPermutation-sym es fs moved) well)
+      well_or_not (inr not_well) = not_well ∙ sym (false_from_ne_true _ (λ well. true≢false (sym (well-moved es fs moved well) ∙ not_well)))
 
 -- two rectangles that begin at one place share a cell
 same_meet : (e f : Rectangle) → IsSpanSize e.size → IsSpanSize f.size → e.first ≡ f.first → meets e f ≡ true
@@ -123,41 +123,43 @@ moved-member es fs e moved = of-all (λ (f : Rectangle). Member f fs) es (recurs
 
 -- what is found among rectangles, whatever their order
 same_found : (es fs : List Rectangle) → IsPermutation es fs → AreSorted fs → (q : Position) → find_at q es ≡ find_at q fs
-same_found es fs moved up q = by (find_at q es) (find_at q fs) refl refl
+same_found es fs moved up q = found_or_not (find_at q es) (find_at q fs) refl refl
   where
     never : (w : Size) → find_at q es ≡ None → (v : Size) × (find_at q es ≡ Some v) → ⊥
     never w none found = none-some found.0 (sym none ∙ found.1)
 
-    by : (x y : Option Size) → find_at q es ≡ x → find_at q fs ≡ y → x ≡ y
-    by None None a b = refl
-    by None (Some w) a b = absurd (never w a (member-find es (rectangle q w) (moved-member fs es (rectangle q w) (IsPermutation-sym es fs moved) (find-member fs q w b))))
-    by (Some v) y a b = sym (sorted-find fs (rectangle q v) up (moved-member es fs (rectangle q v) moved (find-member es q v a))) ∙ b
+    found_or_not : (x y : Option Size) → find_at q es ≡ x → find_at q fs ≡ y → x ≡ y
+    found_or_not None None a b = refl
+    found_or_not None (Some w) a b = absurd (never w a (member-find es (rectangle q w) (moved-member fs es (rectangle q w) (IsPermutation-sym es fs moved) (find-member fs q w b))))
+    found_or_not (Some v) y a b = sym (sorted-find fs (rectangle q v) up (moved-member es fs (rectangle q v) moved (find-member es q v a))) ∙ b
 
 -- what sorting gives
 pub record InOrder (es fs : List Rectangle) : Type 0 where
   pub moved : IsPermutation es fs
+  pub given : AreSpans es
   pub sizes : AreSpans fs
   pub up : IsSortedByKey (λ (e : Rectangle). e.first) position_cmp fs
 
 pub in_order : (es given fs : List Rectangle) → given ≡ es → IsPermutation given fs → AreSpans es → IsSortedByKey (λ (e : Rectangle). e.first) position_cmp fs → InOrder es fs
 in_order es given fs is permuted sizes up =
     let moved : IsPermutation es fs = subst (λ (gs : List Rectangle). IsPermutation gs fs) is permuted in
-    record { moved = moved; sizes = recursion_from_All _ fs (All-permutation (λ (e : Rectangle). IsSpanSize e.size) es fs moved (All-from_recursion _ es sizes)); up = up }
+    record { moved = moved; given = sizes; sizes = recursion_from_All _ fs (All-permutation (λ (e : Rectangle). IsSpanSize e.size) es fs moved (All-from_recursion _ es sizes)); up = up }
 
 -- places come row by row
 row_le : (p q : Position) → is_lt (position_cmp q p) ≡ false → p.row ≤ q.row
-row_le p q low = by (cases_lt q.row p.row)
+row_le p q low = unless_below (cases_lt q.row p.row)
   where
-    by : (q.row < p.row) ⊎ (p.row ≤ q.row) → p.row ≤ q.row
-    by (inl below) = absurd (true≢false (sym (rw (lt-ltb q.row p.row below) refl) ∙ low))
-    by (inr past) = past
+    unless_below : (q.row < p.row) ⊎ (p.row ≤ q.row) → p.row ≤ q.row
+    unless_below (inl below) = absurd (true≢false (sym (rw (lt-ltb q.row p.row below) refl) ∙ low))
+    unless_below (inr past) = past
 
 -- so sorted rectangles rise by rows
 pub rows_rise : (es fs : List Rectangle) → InOrder es fs → RowsRise fs
 rows_rise es fs h k d high = row_le (get_or fs k d).first (get_or fs (k + 1) d).first (h.up k d (omega arith) high)
 
 -- sorted rectangles that lie well are those of the map of all
-pub map_of_sorted : (rows columns : ℕ) (es fs : List Rectangle) → InOrder es fs → lie_well rows columns fs ≡ true → AreAnchors fs × (map_of fs ≡ spans_of es)
+pub map_of_sorted : (rows columns : ℕ) (es fs : List Rectangle) → InOrder es fs → lie_well rows columns fs ≡ true → AreAnchors fs × (map_of fs ≡ from_rectangles es)
 map_of_sorted rows columns es fs h well =
     let up = sorted-well rows columns fs h.sizes well h.up in
-    (record { sorted = up; sizes = h.sizes }, same_map positions_total positions_exact _ _ (λ q. get-map_of fs q up ∙ sym (same_found es fs h.moved up q) ∙ sym (get-from_entries positions_total (pairs es) q)))
+    let valid : AreAnchors fs = record { sorted = up; sizes = h.sizes } in
+    (valid, same_map _ _ (λ q. get-map_of fs q valid ∙ sym (same_found es fs h.moved up q) ∙ sym (get-from_rectangles es q h.given)))

@@ -6,14 +6,14 @@ use Rattle.tabled_language.proofs.Escapes.{unescaped-clean}
 
 words_of-utf8 : (n : ℕ) (line : List ℕ) → length line < n → IsUtf8 line → AllByRecursion IsUtf8 (words_of line)
 words_of-utf8 zero line short text = absurd (omega (arith, short))
-words_of-utf8 (suc n) line short text = by (leb_tells (length line) i) (words_of-utf8 n)
+words_of-utf8 (suc n) line short text = parted_or_whole (leb_tells (length line) i) (words_of-utf8 n)
   where
     i : ℕ
     i = position_or_len (λ b. eqb b 9) line
 
-    by : ((leb (length line) i ≡ true) × (length line ≤ i)) ⊎ ((leb (length line) i ≡ false) × (i < length line)) → ((others : List ℕ) → length others < n → IsUtf8 others → AllByRecursion IsUtf8 (words_of others)) → AllByRecursion IsUtf8 (words_of line)
-    by (inl (_, past)) later = subst (AllByRecursion IsUtf8) (sym (one_part 9 line past)) (text, tt)
-    by (inr (_, within)) later =
+    parted_or_whole : ((leb (length line) i ≡ true) × (length line ≤ i)) ⊎ ((leb (length line) i ≡ false) × (i < length line)) → ((others : List ℕ) → length others < n → IsUtf8 others → AllByRecursion IsUtf8 (words_of others)) → AllByRecursion IsUtf8 (words_of line)
+    parted_or_whole (inl (_, past)) later = subst (AllByRecursion IsUtf8) (sym (one_part 9 line past)) (text, tt)
+    parted_or_whole (inr (_, within)) later =
         let ascii = ascii_at_place 9 line i (omega arith) refl within in
         let first = IsUtf8-take line i text (IsCharBoundary-before_ascii line i within ascii) in
         let behind = IsUtf8-drop line (i + 1) text (IsCharBoundary-after_ascii line i text within ascii) in
@@ -36,8 +36,8 @@ plain_line line text clean = rw (is_utf8-from_IsUtf8 line text, clean) refl
 
 -- bytes that are no text aren't
 pub not_plain : (line : List ℕ) → (IsUtf8 line → ⊥) → is_plain line ≡ false
-not_plain line none = by (is_utf8 line) refl
+not_plain line none = by_test (is_utf8 line) refl
   where
-    by : (b : Bool) → is_utf8 line ≡ b → is_plain line ≡ false
-    by true valid = absurd (none (IsUtf8-from_is_utf8 line valid))
-    by false invalid = rw invalid refl
+    by_test : (b : Bool) → is_utf8 line ≡ b → is_plain line ≡ false
+    by_test true valid = absurd (none (IsUtf8-from_is_utf8 line valid))
+    by_test false invalid = rw invalid refl

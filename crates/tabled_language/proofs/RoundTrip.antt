@@ -1,7 +1,7 @@
 -- What is written of a table is read as that table.
-use Rattle.tabled_language.proofs.Common.{[], ◌++◌, ◌<◌, ◌^◌, ◌∙◌, ◌∷◌, ◌≡◌, AllByRecursion, Grid, IsUtf8, Line, List, None, Ok, RecordLine, Rectangle, Script, SpanMap, State, ap, append-nil, append_assoc, ap₂, arith, codes, fault_among, filter_map, first_fault, flat_map, lie_well, line, lines_of, map, parse, print, record_in, refl, says_line, script_of, script_or_fault, shape_fault, span_fault, span_line, sym, tab_separated, table_from, true, ℕ, rectangles, spans_of}
+use Rattle.tabled_language.proofs.Common.{[], ◌++◌, ◌<◌, ◌^◌, ◌∙◌, ◌∷◌, ◌≡◌, AllByRecursion, Grid, IsUtf8, Line, List, None, Ok, RecordLine, Rectangle, Script, SpanMap, State, ap, append-nil, append_assoc, ap₂, arith, codes, fault_among, filter_map, first_fault, flat_map, lie_well, line, lines_of, map, parse, print, record_in, refl, says_line, script_of, script_or_fault, shape_fault, span_fault, span_line, sym, tab_separated, table_from, true, ℕ, rectangles, from_rectangles}
 use Rattle.tabled_language.specs.RoundTrip.{IsTable, ReadsBack}
-use Rattle.tabled_language.proofs.BackToAnchors.{IsSpanIn, rectangles_well, spans_in, spans_of-rectangles}
+use Rattle.tabled_language.proofs.BackToAnchors.{IsSpanIn, rectangles_well, spans_in, from_rectangles-rectangles}
 use Rattle.tabled_language.proofs.BackToLines.{IsSmall, all_back, row_back, shape_back, shape_words, span_back, span_words}
 use Rattle.tabled_language.proofs.BackToRecords.{table_from-even}
 use Rattle.tabled_language.proofs.BackToTexts.{lines_of-line, lines_of-lines}
@@ -50,7 +50,7 @@ abbrev scripted : List (List (List ℕ)) → SpanMap → List (State → State) 
 scripted records spans steps = record { records = records; spans = spans; steps = steps }
 
 script_is : (g : Grid (List ℕ)) (m : SpanMap) → script_of (table g.rows g.columns g.cells (rectangles m)) ≡ scripted g.cells m []
-script_is g m = same (records_are g.rows g.columns g.cells (rectangles m)) (ap spans_of (anchors_are g.rows g.columns g.cells (rectangles m)) ∙ spans_of-rectangles m) (steps_are g.rows g.columns g.cells (rectangles m))
+script_is g m = same (records_are g.rows g.columns g.cells (rectangles m)) (ap from_rectangles (anchors_are g.rows g.columns g.cells (rectangles m)) ∙ from_rectangles-rectangles m) (steps_are g.rows g.columns g.cells (rectangles m))
   where
     same : {xs ys : List (List (List ℕ))} {k n : SpanMap} {fs gs : List (State → State)} → xs ≡ ys → k ≡ n → fs ≡ gs → scripted xs k fs ≡ scripted ys n gs
     same a b c = rw (a, b, c) refl

@@ -74,11 +74,11 @@ counted false m n rest left some e = let same : m ≡ n = ap number e in omega (
 
 -- a positive number is at least 1
 pub positive_number_some : (texts left : List (List ℕ)) (n : ℕ) → reads_positive_number.reads texts ≡ Ok (n, left) → 0 < n
-positive_number_some texts left n is = by (reads_number.reads texts) refl
+positive_number_some texts left n is = by_read (reads_number.reads texts) refl
   where
-    by : (r : Read ℕ) → reads_number.reads texts ≡ r → 0 < n
-    by (Err fault) e = let fails = rw e at is in cc
-    by (Ok (m, rest)) e = counted (eqb m 0) m n rest left refl (rw e at is)
+    by_read : (r : Read ℕ) → reads_number.reads texts ≡ r → 0 < n
+    by_read (Err fault) e = let fails = rw e at is in cc
+    by_read (Ok (m, rest)) e = counted (eqb m 0) m n rest left refl (rw e at is)
 
 -- a table that was read
 pub table_read : (texts first second left : List (List ℕ)) (rows columns : ℕ) (g : Grid (List ℕ)) → reads_positive_number.reads texts ≡ Ok (rows, first) → reads_positive_number.reads first ≡ Ok (columns, second) → rows * columns ≤ length second → g ≡ rows_of_texts rows columns second → left ≡ drop (rows * columns) second → reads_table.reads texts ≡ Ok (g, left)

@@ -15,35 +15,35 @@ pub record IsWalked (done : List Rectangle) (m : BTreeMap ℕ Rectangle) (row : 
 -- what may reach a later row
 pub walked-later : (done : List Rectangle) (m : BTreeMap ℕ Rectangle) (row later : ℕ) → row ≤ later → IsWalked done m row → IsWalked done m later
 walked-later done m row later le h = record {
-  noted = λ f member. by f (h.noted f member);
+  noted = λ f member. reaches_later f (h.noted f member);
   keyed = h.keyed;
   begun = λ q f is. (let b = h.begun q f is in (omega (arith, le, b.0), b.1));
   beside = λ q r f g is other below reach reach_too. h.beside q r f g is other below (omega (arith, le, reach)) (omega (arith, le, reach_too));
   among = h.among;
 }
   where
-    by : (f : Rectangle) → EndsAbove row f ⊎ (get nat_cmp m f.first.col ≡ Some f) → EndsAbove later f ⊎ (get nat_cmp m f.first.col ≡ Some f)
-    by f (inl above) = inl (omega (arith, le, above))
-    by f (inr is) = inr is
+    reaches_later : (f : Rectangle) → EndsAbove row f ⊎ (get nat_cmp m f.first.col ≡ Some f) → EndsAbove later f ⊎ (get nat_cmp m f.first.col ≡ Some f)
+    reaches_later f (inl above) = inl (omega (arith, le, above))
+    reaches_later f (inr is) = inr is
 
 apart_from : (e f : Rectangle) → EndsAbove e.first.row f ⊎ IsBeside e f → meets e f ≡ false
-apart_from e f h = false_from_ne_true _ (λ t. by (meets-true e f t) h)
+apart_from e f h = false_from_ne_true _ (λ t. not_met (meets-true e f t) h)
   where
-    by : Meets e f → EndsAbove e.first.row f ⊎ IsBeside e f → ⊥
-    by m (inl above) = omega (arith, m.above, above)
-    by m (inr (inl left)) = omega (arith, m.left, left)
-    by m (inr (inr right)) = omega (arith, m.right, right)
+    not_met : Meets e f → EndsAbove e.first.row f ⊎ IsBeside e f → ⊥
+    not_met m (inl above) = omega (arith, m.above, above)
+    not_met m (inr (inl left)) = omega (arith, m.left, left)
+    not_met m (inr (inr right)) = omega (arith, m.right, right)
 
 -- then the anchor has a place
 pub clear_place : (rows columns : ℕ) (done : List Rectangle) (m : BTreeMap ℕ Rectangle) (e : Rectangle) → IsWalked done m e.first.row → IsClear m e → lies_inside rows columns e ≡ true → has_place rows columns done e ≡ true
 clear_place rows columns done m e h clear inside = and_from _ _ inside (not_from_false _ (false_from_ne_true _ (λ t. never (any-member (meets e) done t))))
   where
-    by : (f : Rectangle) → EndsAbove e.first.row f ⊎ (get nat_cmp m f.first.col ≡ Some f) → EndsAbove e.first.row f ⊎ IsBeside e f
-    by f (inl above) = inl above
-    by f (inr is) = clear f.first.col f is
+    above_or_beside : (f : Rectangle) → EndsAbove e.first.row f ⊎ (get nat_cmp m f.first.col ≡ Some f) → EndsAbove e.first.row f ⊎ IsBeside e f
+    above_or_beside f (inl above) = inl above
+    above_or_beside f (inr is) = clear f.first.col f is
 
     never : (f : Rectangle) × Member f done × (meets e f ≡ true) → ⊥
-    never (f, member, met) = true≢false (sym met ∙ apart_from e f (by f (h.noted f member)))
+    never (f, member, met) = true≢false (sym met ∙ apart_from e f (above_or_beside f (h.noted f member)))
 
 -- or it has none
 pub met_place : (rows columns : ℕ) (done : List Rectangle) (m : BTreeMap ℕ Rectangle) (e : Rectangle) → IsWalked done m e.first.row → 1 ≤ e.size.height → IsMet m e → has_place rows columns done e ≡ false
@@ -59,28 +59,28 @@ module _ (done : List Rectangle) (m cleared new : BTreeMap ℕ Rectangle) (e : R
 
   old : (q : ℕ) (f : Rectangle) → get nat_cmp new q ≡ Some f → Old q f
   unfolding Old
-  old q f is = by (is_eq (nat_cmp e.first.col q)) refl
+  old q f is = put_or_old (is_eq (nat_cmp e.first.col q)) refl
     where
-      by : (b : Bool) → is_eq (nat_cmp e.first.col q) ≡ b → ((q ≡ e.first.col) × (f ≡ e)) ⊎ (get nat_cmp m q ≡ Some f)
-      by true t = inl (grind (arith, nat_tests), same_Some f e (sym is ∙ put q ∙ ap (λ b. cond b (Some e) (get nat_cmp cleared q)) t))
-      by false t = inr (drops.had q f (sym (ap (λ b. cond b (Some e) (get nat_cmp cleared q)) t) ∙ sym (put q) ∙ is))
+      put_or_old : (b : Bool) → is_eq (nat_cmp e.first.col q) ≡ b → ((q ≡ e.first.col) × (f ≡ e)) ⊎ (get nat_cmp m q ≡ Some f)
+      put_or_old true t = inl (grind (arith, nat_tests), same_Some f e (sym is ∙ put q ∙ ap (λ b. cond b (Some e) (get nat_cmp cleared q)) t))
+      put_or_old false t = inr (drops.had q f (sym (ap (λ b. cond b (Some e) (get nat_cmp cleared q)) t) ∙ sym (put q) ∙ is))
 
   here : get nat_cmp new e.first.col ≡ Some e
   here = (let t : is_eq (nat_cmp e.first.col e.first.col) ≡ true = grind (arith, nat_tests) in put e.first.col ∙ ap (λ b. cond b (Some e) (get nat_cmp cleared e.first.col)) t)
 
   stays : (f : Rectangle) → EndsAbove e.first.row f ⊎ (get nat_cmp m f.first.col ≡ Some f) → EndsAbove e.first.row f ⊎ (get nat_cmp new f.first.col ≡ Some f)
   stays f (inl above) = inl above
-  stays f (inr is) = by (drops.stays f.first.col f is) (is_eq (nat_cmp e.first.col f.first.col)) refl
+  stays f (inr is) = unless_dropped (drops.stays f.first.col f is) (is_eq (nat_cmp e.first.col f.first.col)) refl
     where
       beside : e.first.col ≡ f.first.col → EndsAbove e.first.row f ⊎ IsBeside e f → EndsAbove e.first.row f ⊎ (get nat_cmp new f.first.col ≡ Some f)
       beside same (inl above) = inl above
       beside same (inr (inl left)) = absurd (omega (arith, left, same, (h.begun f.first.col f is).1))
       beside same (inr (inr right)) = absurd (omega (arith, right, same, wide))
 
-      by : EndsAbove e.first.row f ⊎ (get nat_cmp cleared f.first.col ≡ Some f) → (b : Bool) → is_eq (nat_cmp e.first.col f.first.col) ≡ b → EndsAbove e.first.row f ⊎ (get nat_cmp new f.first.col ≡ Some f)
-      by (inl above) b t = inl above
-      by (inr still) true t = beside (grind (arith, nat_tests)) (clear f.first.col f is)
-      by (inr still) false t = inr (put f.first.col ∙ ap (λ b. cond b (Some e) (get nat_cmp cleared f.first.col)) t ∙ still)
+      unless_dropped : EndsAbove e.first.row f ⊎ (get nat_cmp cleared f.first.col ≡ Some f) → (b : Bool) → is_eq (nat_cmp e.first.col f.first.col) ≡ b → EndsAbove e.first.row f ⊎ (get nat_cmp new f.first.col ≡ Some f)
+      unless_dropped (inl above) b t = inl above
+      unless_dropped (inr still) true t = beside (grind (arith, nat_tests)) (clear f.first.col f is)
+      unless_dropped (inr still) false t = inr (put f.first.col ∙ ap (λ b. cond b (Some e) (get nat_cmp cleared f.first.col)) t ∙ still)
 
   all_stay : (f : Rectangle) → Member f done ⊎ Member f (e ∷ []) → EndsAbove e.first.row f ⊎ (get nat_cmp new f.first.col ≡ Some f)
   all_stay f (inl before) = stays f (h.noted f before)
@@ -100,18 +100,18 @@ module _ (done : List Rectangle) (m cleared new : BTreeMap ℕ Rectangle) (e : R
   beside : (q r : ℕ) (f g : Rectangle) → Old q f → Old r g → q < r → e.first.row < f.first.row + f.size.height → e.first.row < g.first.row + g.size.height → f.first.col + f.size.width ≤ r
   unfolding Old
   beside q r f g (inl (at, is)) (inl (at_too, is_too)) below reach reach_too = absurd (omega (arith, at, at_too, below))
-  beside q r f g (inl (at, is)) (inr other) below reach reach_too = subst (λ (a : Rectangle). a.first.col + a.size.width ≤ r) (sym is) (by (clear r g other))
+  beside q r f g (inl (at, is)) (inr other) below reach reach_too = subst (λ (a : Rectangle). a.first.col + a.size.width ≤ r) (sym is) (ends_before (clear r g other))
     where
-      by : EndsAbove e.first.row g ⊎ IsBeside e g → e.first.col + e.size.width ≤ r
-      by (inl above) = absurd (omega (arith, above, reach_too))
-      by (inr (inl left)) = absurd (omega (arith, left, h.keyed r g other, at, below))
-      by (inr (inr right)) = omega (arith, right, h.keyed r g other)
-  beside q r f g (inr one) (inl (at, is)) below reach reach_too = by (clear q f one)
+      ends_before : EndsAbove e.first.row g ⊎ IsBeside e g → e.first.col + e.size.width ≤ r
+      ends_before (inl above) = absurd (omega (arith, above, reach_too))
+      ends_before (inr (inl left)) = absurd (omega (arith, left, h.keyed r g other, at, below))
+      ends_before (inr (inr right)) = omega (arith, right, h.keyed r g other)
+  beside q r f g (inr one) (inl (at, is)) below reach reach_too = ends_before (clear q f one)
     where
-      by : EndsAbove e.first.row f ⊎ IsBeside e f → f.first.col + f.size.width ≤ r
-      by (inl above) = absurd (omega (arith, above, reach))
-      by (inr (inl left)) = omega (arith, left, at)
-      by (inr (inr right)) = absurd (omega (arith, right, h.keyed q f one, at, below))
+      ends_before : EndsAbove e.first.row f ⊎ IsBeside e f → f.first.col + f.size.width ≤ r
+      ends_before (inl above) = absurd (omega (arith, above, reach))
+      ends_before (inr (inl left)) = omega (arith, left, at)
+      ends_before (inr (inr right)) = absurd (omega (arith, right, h.keyed q f one, at, below))
   beside q r f g (inr one) (inr other) below reach reach_too = h.beside q r f g one other below reach reach_too
 
   among : (q : ℕ) (f : Rectangle) → Old q f → Member f (done ++ e ∷ [])
@@ -154,9 +154,9 @@ has_walked-more rows columns es k m cleared new e h up within is wide inside cle
     record {
       row = e.first.row;
       walked = subst (λ (fs : List Rectangle). IsWalked fs new e.first.row) (sym more) (walked-more (take k es) m cleared new e at wide clear drops put);
-      below = λ d next. by d next (up k d next);
+      below = λ d next. row_before d next (up k d next);
       well = ap (lie_well rows columns) more ∙ well-push rows columns (take k es) e ∙ and_from _ _ h.well (clear_place rows columns (take k es) m e at clear inside);
     }
   where
-    by : (d : Rectangle) → k + 1 < length es → (get_or es k d).first.row ≤ (get_or es (k + 1) d).first.row → e.first.row ≤ (get_or es (k + 1) d).first.row
-    by d next le = subst (λ (a : Rectangle). a.first.row ≤ (get_or es (k + 1) d).first.row) (get_or_default es k d e within ∙ sym is) le
+    row_before : (d : Rectangle) → k + 1 < length es → (get_or es k d).first.row ≤ (get_or es (k + 1) d).first.row → e.first.row ≤ (get_or es (k + 1) d).first.row
+    row_before d next le = subst (λ (a : Rectangle). a.first.row ≤ (get_or es (k + 1) d).first.row) (get_or_default es k d e within ∙ sym is) le

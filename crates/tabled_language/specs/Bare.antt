@@ -1,8 +1,8 @@
 -- What a script says where the words `shape` and `span` begin no line: records and steps alone.
 use Rattle.std.specs.Prelude.{ℕ, Bool, true, false, ◌||◌, List, [], ◌∷◌, codes, map, if◌then◌else◌, Option, None, Some, Result, filter_map}
-use Rattle.std.specs.FinMap as finite
 use Rattle.std.specs.List.{list_any}
 use Rattle.std.specs.Str.{bytes_eq}
+use Rattle.tabled_grid.specs.Spans.{empty}
 use Rattle.tabled_language.specs.declared.fault.Fault.{Fault}
 use Rattle.tabled_language.specs.declared.fault.Fault.TheVariants.{Escape, OutOfPlace}
 use Rattle.tabled_language.specs.Faults.{first_fault, if_faultless}
@@ -53,7 +53,7 @@ bare_fault earlier line = bare_fault_of (list_any is_step earlier) line
 
 -- the records and the steps among lines, and no merged cells, or the number of the first faulty line and its fault
 abbrev pub bare_script : List Line → Result Script (ℕ × Fault)
-bare_script lines = if_faultless (record { records = filter_map record_in lines; spans = finite.empty; steps = filter_map step_in lines }) (first_fault bare_fault [] lines)
+bare_script lines = if_faultless (record { records = filter_map record_in lines; spans = empty; steps = filter_map step_in lines }) (first_fault bare_fault [] lines)
 
 -- the script that bytes write, or the number of its first faulty line and the fault
 abbrev pub bare_parse : List ℕ → Result Script (ℕ × Fault)

@@ -2,6 +2,7 @@
 use Rattle.std.specs.Prelude.{ℕ, List, map, Option, None, Some}
 use Rattle.std.specs.Global.{Vec}
 use Rattle.std.specs.String.{string_bytes}
+use Rattle.tabled_grid.specs.Grid.{map_items}
 use Rattle.tabled_language.specs.declared.lent.LentText.{LentText}
 use Rattle.tabled_language.specs.declared.lent.LentText.TheVariants.{Lent, Short, Own}
 
@@ -20,3 +21,7 @@ lent_word (Own text) = None
 -- the texts of a row
 abbrev pub texts_in_row : Vec LentText → List (List ℕ)
 texts_in_row row = map bytes_of row.items
+
+-- the texts of records
+abbrev pub texts_in_records : List (Vec LentText) → List (List (List ℕ))
+texts_in_records records = map (map bytes_of) (map_items records)

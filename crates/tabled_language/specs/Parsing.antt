@@ -19,12 +19,12 @@ use Rattle.tabled_language.specs.declared.script.Script.{Script as Scripted}
 use Rattle.tabled_language.specs.declared.words.Source.{Source}
 use Rattle.tabled_language.specs.declared.words.Source.TheVariants.{Line as InLine, Texts}
 use Rattle.tabled_language.specs.Drafts.{Draft, draft_of, fault_behind, takes, with_line}
-use Rattle.tabled_language.specs.Lent.{bytes_of}
+use Rattle.tabled_language.specs.Lent.{bytes_of, texts_in_records}
 use Rattle.tabled_language.specs.Faults.{fault_of, first_fault}
 use Rattle.tabled_language.specs.Line.{says_line, lines_of, meaning_of}
-use Rattle.tabled_language.specs.Memory.{asks_memory, words_ask}
+use Rattle.tabled_language.specs.Memory.{asks_memory, verb_asks, words_ask}
 use Rattle.tabled_language.specs.Script.{Script, parse, script_or_fault}
-use Rattle.tabled_language.specs.Verb.{Line}
+use Rattle.tabled_language.specs.Verb.{Line, says_verb}
 use Rattle.tabled_language.specs.Words.{Reading}
 
 -- the words that are left of a source
@@ -51,11 +51,11 @@ TakesWords view taken left result new = MatchResult result (λ x. (view x ≡ ta
 
 -- the draft of what is in memory
 abbrev pub draft_in : Drafted → Draft
-draft_in d = record { shape = d.shape; records = map (map bytes_of) (map_items d.records.items); anchors = d.spans.anchors; lines = d.spans.numbers; steps = map after d.steps.items }
+draft_in d = record { shape = d.shape; records = texts_in_records d.records.items; anchors = d.spans.anchors; lines = d.spans.numbers; steps = map after d.steps.items }
 
 -- the script of what is in memory
 abbrev pub script_in : List (Vec LentText) → SpanMap → List Step → Script
-script_in records spans steps = record { records = map (map bytes_of) (map_items records); spans = spans; steps = map after steps }
+script_in records spans steps = record { records = texts_in_records records; spans = spans; steps = map after steps }
 
 -- what is meant is the script that is in memory
 abbrev pub IsScript : Result Script (ℕ × Fault) → Scripted → Type 0
@@ -75,6 +75,10 @@ abbrev pub EndsDraft : Draft → ParseError → Type 0
 EndsDraft d (parse_error.Faulty line fault) = DraftMeans d (Err (line, fault))
 EndsDraft d parse_error.OutOfMemory = 0 < length d.anchors
 
+-- a draft becomes the script that its lines mean, or why it becomes none
+abbrev pub BecomesScript : Draft → Result Scripted ParseError → Type 0
+BecomesScript d result = MatchResult result (λ s. DraftMeans d (Ok (script_in s.records.items s.spans s.steps.items))) (EndsDraft d)
+
 -- why a line isn't read: its fault, or memory where it asks for some
 abbrev pub LineEnds : Option Fault → Bool → ReadError → Type 0
 LineEnds wrong asks (Faulty fault) = wrong ≡ Some fault
@@ -87,6 +91,10 @@ ReadsLine old n line asks result new = MatchResult result (λ _. (fault_behind o
 -- the words of the line of a number read into a draft, or why they aren't
 abbrev pub ReadsWords : {X : Type 0} → Draft → ℕ → List (List ℕ) → Result X ReadError → Draft → Type 0
 ReadsWords old n words result new = ReadsLine old n (meaning_of (Some words)) (words_ask (takes old) words) result new
+
+-- what a verb says with words, in the line of a number, read into a draft, or why it isn't
+abbrev pub ReadsVerb : {X : Type 0} → Draft → ℕ → List ℕ → List (List ℕ) → Result X ReadError → Draft → Type 0
+ReadsVerb old n verb words result new = ReadsLine old n (says_verb verb words) (verb_asks (takes old) verb words) result new
 
 -- code says that a line stands in its place after what was read, or that it doesn't
 abbrev pub IsPlaced : {X : Type 0} → Draft → Line → Result X ReadError → Type 0

@@ -1,9 +1,8 @@
 -- Rectangles that come one after another, each with a place of its own.
 use Rattle.std.specs.Prelude.{◌≡◌, ◌+◌, ◌<◌, ◌≤◌, ℕ, ◌&&◌, Bool, true, false, length, get_or, take, List, not}
-use Rattle.std.specs.FinMap.{from_entries}
 use Rattle.std.specs.List.{AllByRecursion, list_any}
 use Rattle.tabled_grid.specs.Anchors.{lie_well, lies_inside, meets}
-use Rattle.tabled_grid.specs.Spans.{IsSpanSize, SpanMap, pairs}
+use Rattle.tabled_grid.specs.Spans.{IsSpanSize, SpanMap, from_rectangles}
 use Rattle.tabled_grid.specs.declared.config.rectangle.Rectangle.{Rectangle}
 use Rattle.tabled_language.specs.declared.fault.Fault.TheVariants.{SpanMisfits}
 use Rattle.tabled_language.specs.declared.fault.ParseError.{ParseError}
@@ -16,10 +15,6 @@ has_place rows columns others e = lies_inside rows columns e && not (list_any (m
 -- rectangles of more than one cell each
 abbrev pub AreSpans : List Rectangle → Type 0
 AreSpans es = AllByRecursion (λ (e : Rectangle). IsSpanSize e.size) es
-
--- the merged cells of rectangles, in any order
-abbrev pub spans_of : List Rectangle → SpanMap
-spans_of es = from_entries (pairs es)
 
 -- the rectangles before an index lie well, and with the one there they do not
 pub record IsFirstMisfit (rows columns : ℕ) (es : List Rectangle) (i : ℕ) : Type 0 where
@@ -38,7 +33,7 @@ AreSpanLines es = record { sizes : AreSpans es.anchors; numbered : length es.anc
 
 -- all rectangles lie well, and these are their merged cells
 abbrev pub IsMerged : ℕ → ℕ → NumberedAnchors → SpanMap → Type 0
-IsMerged rows columns es spans = (lie_well rows columns es.anchors ≡ true) × (spans ≡ spans_of es.anchors)
+IsMerged rows columns es spans = (lie_well rows columns es.anchors ≡ true) × (spans ≡ from_rectangles es.anchors)
 
 -- why rectangles aren't merged: the first that has no place, with the number of its line; or memory, where there are some
 abbrev pub EndsMerge : ℕ → ℕ → NumberedAnchors → ParseError → Type 0

@@ -1,12 +1,11 @@
 -- A script: its records, its merged cells and its steps, and which one bytes write.
 use Rattle.std.specs.Prelude.{ℕ, List, map, Result, filter_map}
-use Rattle.tabled_grid.specs.Spans.{SpanMap}
+use Rattle.tabled_grid.specs.Spans.{SpanMap, from_rectangles}
 use Rattle.tabled_language.specs.declared.fault.Fault.{Fault}
 use Rattle.tabled_language.specs.Verb.{Line}
 use Rattle.tabled_steps.specs.States.{State}
 use Rattle.tabled_language.specs.Line.{anchor_in, says_line, lines_of, record_in, step_in, table_from}
 use Rattle.tabled_language.specs.Faults.{fault_among, if_faultless}
-use Rattle.tabled_language.specs.Placed.{spans_of}
 
 -- the records, the merged cells and the steps of a script
 pub record Script : Type 0 where
@@ -20,7 +19,7 @@ start script = record { texts = table_from script.records; spans = script.spans 
 
 -- the records, the merged cells and the steps among lines, in order
 abbrev pub script_of : List Line → Script
-script_of lines = record { records = filter_map record_in lines; spans = spans_of (filter_map anchor_in lines); steps = filter_map step_in lines }
+script_of lines = record { records = filter_map record_in lines; spans = from_rectangles (filter_map anchor_in lines); steps = filter_map step_in lines }
 
 -- the script that lines are, or the number of the first faulty one and its fault
 abbrev pub script_or_fault : List Line → Result Script (ℕ × Fault)

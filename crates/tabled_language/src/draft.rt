@@ -36,15 +36,15 @@ pub(crate) struct Draft<'a> {
 }
 
 impl<'a> Draft<'a> {
-    ghost use Rattle.std.specs.Prelude.{◌≡◌, false, true, [], ℕ, map, MatchResult, None, Ok, Some};
+    ghost use Rattle.std.specs.Prelude.{◌≡◌, false, true, [], ℕ, map, None, Some};
     ghost use Rattle.std.specs.List.{AllByRecursion};
     ghost use Rattle.tabled_language.specs.Drafts.{takes};
     ghost use Rattle.tabled_language.specs.Lent.{bytes_of};
     ghost use Rattle.tabled_language.specs.Line.{has_byte, says_line, meaning_of, words_of};
-    ghost use Rattle.tabled_language.specs.Memory.{line_asks, span_asks, step_asks, verb_asks};
+    ghost use Rattle.tabled_language.specs.Memory.{line_asks, span_asks, step_asks};
     ghost use Rattle.tabled_language.specs.Output.{IsOwnWord};
-    ghost use Rattle.tabled_language.specs.Parsing.{DraftMeans, EndsDraft, IsPlaced, ReadsLine, ReadsWords, draft_in, script_in};
-    ghost use Rattle.tabled_language.specs.Verb.{RecordLine, says_shape, says_span, says_step, says_verb};
+    ghost use Rattle.tabled_language.specs.Parsing.{BecomesScript, IsPlaced, ReadsLine, ReadsVerb, ReadsWords, draft_in};
+    ghost use Rattle.tabled_language.specs.Verb.{RecordLine, says_shape, says_span, says_step};
 
     pub(crate) fn new(alloc: Global) -> Self
         ensures shape { result.shape ≡ None }
@@ -126,7 +126,7 @@ impl<'a> Draft<'a> {
 
     /// Adds what any verb but `row` says with the words after it, or says why they aren't read.
     fn read_verb(&mut self, alloc: Global, number: usize, verb: &str, words: Words) -> Read<()>
-        ensures { ReadsLine (draft_in self.old) number (says_verb verb.now words.entry) (verb_asks (takes (draft_in self.old)) verb.now words.entry) result (draft_in self.new) }
+        ensures { ReadsVerb (draft_in self.old) number verb.now words.entry result (draft_in self.new) }
     {
         match verb {
             "shape" => self.read_shape(number, words),
@@ -198,7 +198,7 @@ impl<'a> Draft<'a> {
     /// The script, or the line whose shape or rectangle doesn't fit the records. It takes no memory where there are no
     /// anchors.
     pub(crate) fn into_script(self, alloc: Global) -> Result<Script<'a>, ParseError>
-        ensures { MatchResult result (λ s. DraftMeans (draft_in self.entry) (Ok (script_in s.records.items s.spans s.steps.items))) (EndsDraft (draft_in self.entry)) }
+        ensures { BecomesScript (draft_in self.entry) result }
     {
         let Draft {
             shape,

@@ -3,7 +3,7 @@
 ghost use Rattle.std.specs.Prelude.{◌≡◌, [], IfOk, OnOk, map};
 ghost use Rattle.tabled_grid.specs.Grid.{IsEven, grid_of, map_grid, map_items};
 ghost use Rattle.tabled_table.specs.Builder.{longest as longest_of, padded_to};
-ghost use Rattle.tabled_language.specs.Lent.{bytes_of, texts_in_row};
+ghost use Rattle.tabled_language.specs.Lent.{bytes_of, texts_in_records, texts_in_row};
 ghost use Rattle.tabled_language.specs.Line.{table_from};
 
 use crate::lent::LentText;
@@ -17,7 +17,7 @@ use std::alloc::AllocError;
 /// Of this project.
 pub fn padded<'a>(mut records: Vec<Vec<LentText<'a>>>) -> Result<Vec<Vec<LentText<'a>>>, AllocError>
     ensures even { IfOk result (λ cells. IsEven (grid_of (map_items cells.items))) }
-    ensures cells { IfOk result (λ cells. map_grid bytes_of (grid_of (map_items cells.items)) ≡ table_from (map (map bytes_of) (map_items records.entry.items))) }
+    ensures cells { IfOk result (λ cells. map_grid bytes_of (grid_of (map_items cells.items)) ≡ table_from (texts_in_records records.entry.items)) }
 {
     let columns = longest(&records);
     pad_each(&mut records, columns)?;

@@ -2,8 +2,8 @@
 
 ghost use Rattle.std.specs.Prelude.{false, true, ◌≡◌, IfOk};
 ghost use Rattle.tabled_grid.specs.Anchors.{lie_well};
-ghost use Rattle.tabled_grid.specs.Spans.{AreAnchors, map_of};
-ghost use Rattle.tabled_language.specs.Placed.{AreSpans, IsFirstMisfit, spans_of};
+ghost use Rattle.tabled_grid.specs.Spans.{AreAnchors, from_rectangles, map_of};
+ghost use Rattle.tabled_language.specs.Placed.{AreSpans, IsFirstMisfit};
 
 use crate::fault::{Fault, ParseError};
 use crate::walk::have_places;
@@ -101,7 +101,7 @@ fn fit(
 ) -> Result<bool, AllocError>
     requires { AreSpans anchors.now }
     ensures fit { IfOk result (λ fit. fit ≡ lie_well rows columns anchors.now) }
-    ensures made { IfOk result (λ fit. fit ≡ true → AreAnchors sorted.new.items × (map_of sorted.new.items ≡ spans_of anchors.now)) }
+    ensures made { IfOk result (λ fit. fit ≡ true → AreAnchors sorted.new.items × (map_of sorted.new.items ≡ from_rectangles anchors.now)) }
 {
     sorted.clear();
     sorted.extend_from_slice(anchors)?;

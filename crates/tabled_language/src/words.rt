@@ -35,12 +35,11 @@ impl<'a> Model for Words<'a> {
 }
 
 impl<'a> Words<'a> {
-    ghost use Rattle.std.specs.Prelude.{◌≡◌, ◌≤◌, IfOk, MatchResult, drop, length, map, take};
+    ghost use Rattle.std.specs.Prelude.{◌≡◌, ◌≤◌, IfOk, drop, length, map, take};
     ghost use Rattle.std.specs.String.{string_bytes};
     ghost use Rattle.tabled_language.specs.Lent.{bytes_of};
-    ghost use Rattle.tabled_language.specs.Parsing.{Reads};
+    ghost use Rattle.tabled_language.specs.Parsing.{Reads, TakesWords};
     ghost use Rattle.tabled_language.specs.Words.{reads_integer, reads_length, reads_number, reads_positive_length, reads_positive_number, reads_text, reads_two, reads_word};
-    ghost use Rattle.tabled_language.specs.declared.fault.ReadError.TheVariants.{OutOfMemory};
 
     /// The words of a line without escapes.
     pub(crate) fn of_line(words: Fields<'a>) -> Self
@@ -160,7 +159,7 @@ impl<'a> Words<'a> {
     /// n texts.
     pub(crate) fn row(&mut self, alloc: Global, many: usize) -> Read<Vec<Text<String>>>
         requires { many ≤ length self.old }
-        ensures { MatchResult result (λ row. (map string_bytes row.items ≡ take many self.old) × (self.new ≡ drop many self.old)) (λ error. error ≡ OutOfMemory) }
+        ensures { TakesWords (λ row. map string_bytes row.items) (take many self.old) (drop many self.old) result self.new }
     {
         let mut row = Vec::with_capacity(alloc, many)?;
         for _ in 0..many {

@@ -79,8 +79,10 @@ pub trait CellOption<R: GridStore, C> {
         requires ends { IsFinite (I.remaining entities) }
         ensures well { R.is_well_formed records.new }
         ensures back { IfOk result (λ back. IfSome back (λ rest. (rest ≡ entities) × Same (R.grid records.old) cfg.old (R.grid records.new) cfg.new)) }
-        ensures ok { (items : List Entity) → AlwaysYields I.next_gives (λ e. e) entities items → IfOk result (λ back. IsNone back → Each (does self.now) items (R.grid records.old) cfg.old (R.grid records.new) cfg.new) }
-        ensures err { (items : List Entity) → AlwaysYields I.next_gives (λ e. e) entities items → OnErr result (EachUntil (does self.now) (λ e. SameOr (leaves self.now e)) items (R.grid records.old) cfg.old (R.grid records.new) cfg.new) }
+        ensures ok { (items : List Entity) → AlwaysYields I.next_gives (λ e. e) entities items
+            → IfOk result (λ back. IsNone back → Each (does self.now) items (R.grid records.old) cfg.old (R.grid records.new) cfg.new) }
+        ensures err { (items : List Entity) → AlwaysYields I.next_gives (λ e. e) entities items
+            → OnErr result (EachUntil (does self.now) (λ e. SameOr (leaves self.now e)) items (R.grid records.old) cfg.old (R.grid records.new) cfg.new) }
     {
         Ok(Some(entities))
     }
@@ -94,5 +96,6 @@ pub trait CellOption<R: GridStore, C> {
 
     /// An option that may stand for another acts like it: `Prim.search rules` proves it where `is_like` is
     /// an equation.
-    ghost acts_like: { (first second : Self) → is_like first second → ActsLike (can_change first) (can_change second) (does first) (does second) (leaves first) (leaves second) };
+    ghost acts_like: { (first second : Self) → is_like first second
+        → ActsLike (can_change first) (can_change second) (does first) (does second) (leaves first) (leaves second) };
 }

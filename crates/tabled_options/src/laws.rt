@@ -36,8 +36,10 @@ where
     R: GridStore,
     A: TableOption<R, C, D> + Clone,
     B: TableOption<R, C, D> + Clone + Drop,
-    ensures settings { CopiedAsPair A.Clone A.TableOption B.Clone B.TableOption ⟦<Settings<A, B> as Clone>⟧ ⟦<Settings<A, B> as TableOption<R, C, D>>⟧ _a.now _b.now }
-    ensures pairs { CopiedAsPair A.Clone A.TableOption B.Clone B.TableOption ⟦<(A, B) as Clone>⟧ ⟦<(A, B) as TableOption<R, C, D>>⟧ _a.now _b.now }
+    ensures settings { CopiedAsPair A.Clone A.TableOption B.Clone B.TableOption
+        ⟦<Settings<A, B> as Clone>⟧ ⟦<Settings<A, B> as TableOption<R, C, D>>⟧ _a.now _b.now }
+    ensures pairs { CopiedAsPair A.Clone A.TableOption B.Clone B.TableOption
+        ⟦<(A, B) as Clone>⟧ ⟦<(A, B) as TableOption<R, C, D>>⟧ _a.now _b.now }
 {}
 
 /// Copies of settings on cells, and of pairs, are like them where those of their parts are.
@@ -46,8 +48,10 @@ where
     R: GridStore,
     A: CellOption<R, C> + Clone,
     B: CellOption<R, C> + Clone + Drop,
-    ensures settings { CellCopiedAsPair A.Clone A.CellOption B.Clone B.CellOption ⟦<Settings<A, B> as Clone>⟧ ⟦<Settings<A, B> as CellOption<R, C>>⟧ _a.now _b.now }
-    ensures pairs { CellCopiedAsPair A.Clone A.CellOption B.Clone B.CellOption ⟦<(A, B) as Clone>⟧ ⟦<(A, B) as CellOption<R, C>>⟧ _a.now _b.now }
+    ensures settings { CellCopiedAsPair A.Clone A.CellOption B.Clone B.CellOption
+        ⟦<Settings<A, B> as Clone>⟧ ⟦<Settings<A, B> as CellOption<R, C>>⟧ _a.now _b.now }
+    ensures pairs { CellCopiedAsPair A.Clone A.CellOption B.Clone B.CellOption
+        ⟦<(A, B) as Clone>⟧ ⟦<(A, B) as CellOption<R, C>>⟧ _a.now _b.now }
 {}
 
 /// Copies of a vector of options are like it, item by item, where those of its items are.
@@ -107,7 +111,9 @@ where
     P: Property<R::Cell, C>,
     O: Object<R> + Drop,
     M: CellOption<R, C> + Clone,
-    ensures each { ((e : Entity) → OptionKeeps P.holds (M.does _option.now e) (M.leaves _option.now e)) → OptionKeeps P.holds (⟦<ModifyList<O, M> as TableOption<R, C, D>>⟧.does (_object.now, _option.now)) (⟦<ModifyList<O, M> as TableOption<R, C, D>>⟧.leaves (_object.now, _option.now)) }
+    ensures each { ((e : Entity) → OptionKeeps P.holds (M.does _option.now e) (M.leaves _option.now e))
+        → OptionKeeps P.holds (⟦<ModifyList<O, M> as TableOption<R, C, D>>⟧.does (_object.now, _option.now))
+        (⟦<ModifyList<O, M> as TableOption<R, C, D>>⟧.leaves (_object.now, _option.now)) }
 {}
 
 /// An option on cells that leaves the numbers of rows and columns and the configuration, done or refused,

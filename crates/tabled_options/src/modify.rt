@@ -166,8 +166,10 @@ where
     requires next { I.can_next entities }
     requires ends { IsFinite (I.remaining entities) }
     ensures well { R.is_well_formed records.new }
-    ensures ok { (items : List Entity) → AlwaysYields I.next_gives (λ e. e) entities items → OnOk result (Each (M.does option) items (R.grid records.old) cfg.old (R.grid records.new) cfg.new) }
-    ensures err { (items : List Entity) → AlwaysYields I.next_gives (λ e. e) entities items → OnErr result (EachUntil (M.does option) (λ e. SameOr (M.leaves option e)) items (R.grid records.old) cfg.old (R.grid records.new) cfg.new) }
+    ensures ok { (items : List Entity) → AlwaysYields I.next_gives (λ e. e) entities items
+        → OnOk result (Each (M.does option) items (R.grid records.old) cfg.old (R.grid records.new) cfg.new) }
+    ensures err { (items : List Entity) → AlwaysYields I.next_gives (λ e. e) entities items
+        → OnErr result (EachUntil (M.does option) (λ e. SameOr (M.leaves option e)) items (R.grid records.old) cfg.old (R.grid records.new) cfg.new) }
 {
     while let Some(entity) = entities.next() {
         let copy = option.clone()?;

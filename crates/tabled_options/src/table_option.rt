@@ -64,5 +64,6 @@ pub trait TableOption<R: GridStore, C, D> {
 
     /// An option that may stand for another acts like it: `Prim.search rules` proves it where `is_like` is
     /// an equation.
-    ghost acts_like: { (first second : Self) → is_like first second → TableActsLike (can_change first) (can_change second) (does first) (does second) (leaves first) (leaves second) };
+    ghost acts_like: { (first second : Self) → is_like first second
+        → TableActsLike (can_change first) (can_change second) (does first) (does second) (leaves first) (leaves second) };
 }

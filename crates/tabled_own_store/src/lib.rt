@@ -1,6 +1,7 @@
-//! A store of one's own: texts in one vector, row after row.
+//! A store of one's own: texts in a vector for each column.
 #![tactic(auto)]
 
-mod text_grid;
+mod each_column;
+mod text_columns;
 
-pub use text_grid::TextGrid;
+pub use text_columns::TextColumns;

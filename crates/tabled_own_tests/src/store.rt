@@ -4,7 +4,7 @@ use std::alloc::{AllocError, Global};
 use std::test::Fail;
 use tabled_grid::config::SpannedConfig;
 use tabled_options::{Settings, TableOption};
-use tabled_own_store::TextGrid;
+use tabled_own_store::TextColumns;
 use tabled_select::object::Rows;
 use tabled_settings::panel::Panel;
 use tabled_settings::reverse::Reverse;
@@ -14,16 +14,22 @@ use tabled_steps::{Step, run};
 use tabled_testing::{is_word, spelled_merged};
 
 /// The store `a b c / d e f`.
-fn letters(alloc: Global) -> Result<TextGrid, AllocError> {
-    let cells = vec![in alloc;
-        String::from_str(alloc, "a")?,
-        String::from_str(alloc, "b")?,
-        String::from_str(alloc, "c")?,
-        String::from_str(alloc, "d")?,
-        String::from_str(alloc, "e")?,
-        String::from_str(alloc, "f")?,
+fn letters(alloc: Global) -> Result<TextColumns, AllocError> {
+    let columns = vec![in alloc;
+        vec![in alloc;
+            String::from_str(alloc, "a")?,
+            String::from_str(alloc, "d")?
+        ]?,
+        vec![in alloc;
+            String::from_str(alloc, "b")?,
+            String::from_str(alloc, "e")?
+        ]?,
+        vec![in alloc;
+            String::from_str(alloc, "c")?,
+            String::from_str(alloc, "f")?
+        ]?,
     ]?;
-    Ok(TextGrid::new(2, 3, cells))
+    Ok(TextColumns::new(2, columns))
 }
 
 #[test]

@@ -19,6 +19,6 @@ pub record ListsEach {S A B : Type 0} (can_next : S → Type 0) (next_gives : S 
 abbrev pub GoesOverEach : {U S A B : Type 0} → (U → S → Type 0) → (S → Type 0) → (S → Option A → S → Type 0) → (S → Count) → (A → B → Type 0) → U → List B → Type 0
 GoesOverEach {S = S} becomes can_next next_gives remaining stands_for source items = (iter : S) → becomes source iter → ListsEach can_next next_gives remaining stands_for iter items
 
--- the same of an iterator that isn't asked again once it has ended
+-- an iterator that isn't asked again once it has ended gives items that stand for these, one by one, and ends
 abbrev pub ListsEachOnce : {S A B : Type 0} → (S → Type 0) → (S → Option A → S → Type 0) → (S → Count) → (A → B → Type 0) → Fuse S → List B → Type 0
 ListsEachOnce can_next next_gives remaining stands_for iter items = ListsEach (λ s. fuse_done s ≡ false → can_next (fuse_source s)) (fuse_steps next_gives) (λ s. count_unless (fuse_done s) (remaining (fuse_source s))) stands_for iter items

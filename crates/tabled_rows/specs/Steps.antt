@@ -7,6 +7,7 @@ use Rattle.std.specs.Vec.Iter.{into_iter_items, into_iter_len, into_iter_steps}
 use Rattle.std.specs.declared.vec.IntoIter.{IntoIter}
 use Rattle.tabled_rows.specs.declared.records.buf_records.BufIterator.{BufIterator}
 use Rattle.tabled_rows.specs.declared.records.buf_records.BufIterator.TheVariants.{Buffered, Iterator}
+use Rattle.tabled_rows.specs.declared.records.buf_records.BufRecordsIter.{BufRecordsIter}
 use Rattle.std.specs.Iterator.Adapters.{take_count, take_source}
 use Rattle.std.specs.declared.iter.Take.{Take}
 
@@ -36,6 +37,10 @@ still_to_come remaining (Iterator cells) = remaining cells
 pub record BufferedWalk (S T : Type 0) : Type 0 where
   pub buffer : IntoIter (Vec T) Global
   pub rows : S
+
+-- where what goes over buffered rows, and then over others, stands
+abbrev pub walk_of : {S T : Type 0} → BufRecordsIter S T → BufferedWalk S T
+walk_of iter = record { buffer = iter.buffer; rows = iter.rows }
 
 -- a buffered row comes; without one, a row that comes
 abbrev pub GivesBuffered : {S U T I : Type 0} → (S → Option U → S → Type 0) → (U → I → Type 0) → BufferedWalk S T → Option (BufIterator I T) → BufferedWalk S T → Type 0

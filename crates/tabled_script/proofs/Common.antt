@@ -1,5 +1,5 @@
 -- The names that most proofs cite, passed on from one place. Declares nothing.
-pub use Rattle.std.proofs.Common.{IsOk, MatchResult, slice_index_or}
+pub use Rattle.std.proofs.Common.{slice_index_or}
 pub use Rattle.std.proofs.lemmas.Fmt.{decimal_digit, decimal_step, digits_decimal, length-decimal-le}
 pub use Rattle.std.proofs.lemmas.List.Concat.{flat_map-append}
 pub use Rattle.std.proofs.lemmas.Option.{IfSome_then}
@@ -17,7 +17,7 @@ pub use Rattle.tabled_script.specs.Answer.{Faults, ShowsTable, changed, ended}
 pub use Rattle.tabled_script.specs.Sent.{Sends}
 pub use Rattle.tabled_script.specs.declared.held.TheConstants.{PART, PIECE, ROOM}
 pub use Rattle.tabled_select.proofs.Common.{◌%◌, YieldsList-from_vec, into_iter_len, into_iter_steps}
-pub use Rattle.tabled_settings.proofs.Common.{IfOk, IsEven-map_grid}
+pub use Rattle.tabled_settings.proofs.Common.{IsEven-map_grid}
 pub use Rattle.tabled_spans.proofs.Common.{◌^◌, IsUtf8, join_with_byte}
 pub use Rattle.tabled_steps.proofs.Common.{State, after, after_all, leb-true, state_of}
 pub use Rattle.tabled_table.proofs.Common.{Global, decimal, on_ok_weaker}

@@ -1,42 +1,42 @@
 -- What was answered, by the status that it ends with.
-use Rattle.tabled_script.proofs.Common.{◌≡◌, ◌⊎◌, Appends, Err, IfOk, IsOk, List, MatchResult, Ok, OnOk, Option, Result, arith, inl, inr, refl, ℕ}
+use Rattle.tabled_script.proofs.Common.{◌≡◌, ◌⊎◌, Appends, Err, List, Ok, OnOk, Option, Result, arith, inl, inr, refl, ℕ}
 use Rattle.std.specs.Prelude.{◌-◌}
 use Rattle.tabled_language.specs.Script.{parse}
 use Rattle.tabled_language.specs.declared.fault.Fault.{Fault}
-use Rattle.tabled_script.specs.Answer.{Answers, fault_line}
+use Rattle.tabled_script.specs.Answer.{Answers, Finishes, fault_line}
+use Rattle.tabled_script.specs.Outcome.{IfAnswered}
+use Rattle.tabled_script.specs.Status.{DoneOrFaulty, done, faulty}
 use Rattle.tabled_script.specs.declared.form.Form.{Form}
 
--- the status of what was answered
-abbrev pub Finished : {U E A : Type 0} → ℕ → Result (Result U E × ℕ) A → Type 0 → Type 0 → Type 0
-Finished status answered same memory = (status ≡ 4) ⊎ MatchResult answered (λ a. IsOk a.0 × (status ≡ a.1) × same) (λ _. (status ≡ 3) × memory)
-
--- what was answered: a table or a fault
+-- what was answered: a table, or none
 abbrev pub Answered : {U E A : Type 0} → Result (Result U E × ℕ) A → Type 0 → Type 0 → Type 0
-Answered answered shows faults = IfOk answered (λ a. OnOk a.0 (((a.1 ≡ 0) × shows) ⊎ ((a.1 ≡ 2) × faults)))
+Answered answered table none = IfAnswered answered (λ status. DoneOrFaulty status table none)
 
-pub shown : {U E A : Type 0} (status : ℕ) (answered : Result (Result U E × ℕ) A) (same memory shows faults : Type 0) → Finished status answered same memory → Answered answered shows faults → status ≡ 0 → shows × same
-shown status answered same memory shows faults (inl failed) means zero = absurd (omega (arith, failed, zero))
-shown status (Ok (Ok u, n)) same memory shows faults (inr done) (inl shows_it) zero = (shows_it.1, done.2)
-shown status (Ok (Ok u, n)) same memory shows faults (inr done) (inr fault) zero = absurd (omega (arith, done.1, fault.0, zero))
-shown status (Ok (Err e, n)) same memory shows faults (inr done) means zero = cc (done.0)
-shown status (Err e) same memory shows faults (inr done) means zero = absurd (omega (arith, done.0, zero))
+-- what is done has answered a table, and wrote no more
+pub shown : {U E A : Type 0} (status : ℕ) (answered : Result (Result U E × ℕ) A) (old new : Option (List ℕ)) (table none : Type 0) → Finishes answered status old new → Answered answered table none → status ≡ done → table × (new ≡ old)
+shown status answered old new table none (inl fails) means is = absurd (omega (arith, fails, is))
+shown status (Ok (Ok u, n)) old new table none (inr ends) (inl shows) is = (shows.1, ends.2)
+shown status (Ok (Ok u, n)) old new table none (inr ends) (inr tells) is = absurd (omega (arith, ends.1, tells.0, is))
+shown status (Ok (Err e, n)) old new table none (inr ends) means is = cc (ends.0)
+shown status (Err e) old new table none (inr ends) means is = absurd (omega (arith, ends.0, is))
 
-pub faulty : {U E A : Type 0} (status : ℕ) (answered : Result (Result U E × ℕ) A) (same memory shows faults : Type 0) → Finished status answered same memory → Answered answered shows faults → status ≡ 2 → faults × same
-faulty status answered same memory shows faults (inl failed) means two = absurd (omega (arith, failed, two))
-faulty status (Ok (Ok u, n)) same memory shows faults (inr done) (inl shows_it) two = absurd (omega (arith, done.1, shows_it.0, two))
-faulty status (Ok (Ok u, n)) same memory shows faults (inr done) (inr fault) two = (fault.1, done.2)
-faulty status (Ok (Err e, n)) same memory shows faults (inr done) means two = cc (done.0)
-faulty status (Err e) same memory shows faults (inr done) means two = absurd (omega (arith, done.0, two))
+-- what is faulty has answered no table, and wrote no more
+pub told : {U E A : Type 0} (status : ℕ) (answered : Result (Result U E × ℕ) A) (old new : Option (List ℕ)) (table none : Type 0) → Finishes answered status old new → Answered answered table none → status ≡ faulty → none × (new ≡ old)
+told status answered old new table none (inl fails) means is = absurd (omega (arith, fails, is))
+told status (Ok (Ok u, n)) old new table none (inr ends) (inl shows) is = absurd (omega (arith, ends.1, shows.0, is))
+told status (Ok (Ok u, n)) old new table none (inr ends) (inr tells) is = (tells.1, ends.2)
+told status (Ok (Err e, n)) old new table none (inr ends) means is = cc (ends.0)
+told status (Err e) old new table none (inr ends) means is = absurd (omega (arith, ends.0, is))
 
 -- what answers a table answers its script
-pub of_script : {U E A : Type 0} (answered : Result (Result U E × ℕ) A) (state undrawn table faults : Type 0) → (state → table) → IfOk answered (λ a. OnOk a.0 (((a.1 ≡ 0) × state) ⊎ ((a.1 ≡ 2) × undrawn))) → Answered answered table (undrawn ⊎ faults)
-of_script (Ok (Ok u, n)) state undrawn table faults said (inl done) = inl (done.0, said done.1)
-of_script (Ok (Ok u, n)) state undrawn table faults said (inr none) = inr (none.0, inl none.1)
+pub of_script : {U E A : Type 0} (answered : Result (Result U E × ℕ) A) (state undrawn table faults : Type 0) → (state → table) → Answered answered state undrawn → Answered answered table (undrawn ⊎ faults)
+of_script (Ok (Ok u, n)) state undrawn table faults said (inl shows) = inl (shows.0, said shows.1)
+of_script (Ok (Ok u, n)) state undrawn table faults said (inr tells) = inr (tells.0, inl tells.1)
 of_script (Ok (Err e, n)) state undrawn table faults said means = tt
 of_script (Err e) state undrawn table faults said means = tt
 
 -- what says the first fault answers its script
-pub of_fault : {U E : Type 0} (said : Result U E) (how : Form) (n : ℕ) (input : List ℕ) (old new : Option (List ℕ)) (line counted : ℕ) (fault : Fault) → parse input ≡ Err (line, fault) → counted ≡ line - n → OnOk said (Appends old new (fault_line (counted, fault))) → OnOk said (Answers how n input old new 2)
+pub of_fault : {U E : Type 0} (said : Result U E) (how : Form) (n : ℕ) (input : List ℕ) (old new : Option (List ℕ)) (line counted : ℕ) (fault : Fault) → parse input ≡ Err (line, fault) → counted ≡ line - n → OnOk said (Appends old new (fault_line (counted, fault))) → OnOk said (Answers how n input old new faulty)
 of_fault (Ok u) how n input old new line counted fault is counts written = inr (refl, inr ((line, fault), is, rw counts at written))
 of_fault (Err e) how n input old new line counted fault is counts written = tt
 

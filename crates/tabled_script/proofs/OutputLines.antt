@@ -22,7 +22,7 @@ table_lines-pieces {A} text_of rows = rw (flat_map-map (λ row. line (codes "row
 pub pushed_last : {A : Type 0} (line_of : A → List ℕ) (before : List ℕ) (xs : List A) (x : A) → (before ++ flat_map line_of xs) ++ line_of x ≡ before ++ flat_map line_of (xs ++ x ∷ [])
 pushed_last line_of before xs x = rw (flat_map-append line_of xs (x ∷ []), append-nil (line_of x)) (append_assoc before (flat_map line_of xs) (line_of x))
 
--- the same of the things before an index, and the one at it
+-- the line of the thing at an index after those of the things before it
 pub pushed_more : {A : Type 0} (line_of : A → List ℕ) (before out : List ℕ) (xs : List A) (i : ℕ) (x : A) → i < length xs → x ≡ get_or xs i x → out ≡ before ++ flat_map line_of (take i xs) → out ++ line_of x ≡ before ++ flat_map line_of (take (i + 1) xs)
 pushed_more line_of before out xs i x here is read = rw (take_more xs i x here, ← is, read) (pushed_last line_of before (take i xs) x)
 

@@ -6,7 +6,6 @@ use Rattle.std.specs.List.{fold}
 use Rattle.tabled_csv.specs.Writing.{csv_of}
 use Rattle.tabled_draw.specs.Markdown.{markdown}
 use Rattle.tabled_draw.specs.Picture.{drawn, drawn_with}
-use Rattle.tabled_grid.specs.Spans.{AreSpanSizes}
 use Rattle.tabled_grid.specs.Fitting.{Fits}
 use Rattle.tabled_language.specs.Faults.{fault_number}
 use Rattle.tabled_language.specs.Script.{Script, parse, start}
@@ -14,6 +13,7 @@ use Rattle.tabled_language.specs.declared.fault.Fault.{Fault}
 use Rattle.tabled_language.specs.Output.{print}
 use Rattle.tabled_language.specs.RoundTrip.{IsTable}
 use Rattle.tabled_script.specs.Narrow.{IsNarrowPicture}
+use Rattle.tabled_script.specs.Status.{DoneOrFaulty, failed, out_of_memory}
 use Rattle.tabled_script.specs.declared.form.Form.{Form}
 use Rattle.tabled_script.specs.declared.form.Form.TheVariants as form
 use Rattle.tabled_steps.specs.States.{State}
@@ -65,9 +65,9 @@ IsTableIfFitting s = Fits s.spans s.texts.rows s.texts.columns → IsTable s
 -- what is known of a state that was written
 abbrev pub known_as : Form → State → Type 0
 known_as form.Script s = IsTableIfFitting s
-known_as (form.Picture style alignments) s = AreSpanSizes s.spans
-known_as (form.NarrowPicture width style alignments) s = AreSpanSizes s.spans
-known_as (form.Markdown alignments) s = AreSpanSizes s.spans
+known_as (form.Picture style alignments) s = Unit {0}
+known_as (form.NarrowPicture width style alignments) s = Unit {0}
+known_as (form.Markdown alignments) s = Unit {0}
 known_as (form.Csv separator) s = Unit {0}
 
 -- a state was written in a form, and what is known of it then
@@ -82,14 +82,19 @@ ShowsTable how input old new = (script : Script) × (parse input ≡ Ok script) 
 abbrev pub Faults : ℕ → List ℕ → Option (List ℕ) → Option (List ℕ) → Type 0
 Faults n input old new = (fault : ℕ × Fault) × (parse input ≡ Err fault) × Appends old new (fault_line (fault.0 - n, fault.1))
 
--- a status says what was written for a script: 0 the table that it ends with, 2 the line of its first fault, or nothing for want of width
+-- no table was written: nothing for want of width, or the line of a script's first fault
+abbrev pub ShowsNoTable : Form → ℕ → List ℕ → Option (List ℕ) → Option (List ℕ) → Type 0
+ShowsNoTable how n input old new = LeavesUndrawn how old new ⊎ Faults n input old new
+
+-- a status says what was written for a script: the table that it ends with, or none
 abbrev pub Answers : Form → ℕ → List ℕ → Option (List ℕ) → Option (List ℕ) → ℕ → Type 0
-Answers how n input old new status = ((status ≡ 0) × ShowsTable how input old new) ⊎ ((status ≡ 2) × (LeavesUndrawn how old new ⊎ Faults n input old new))
+Answers how n input old new status = DoneOrFaulty status (ShowsTable how input old new) (ShowsNoTable how n input old new)
 
--- one of the program's statuses
-abbrev pub IsStatus : ℕ → Type 0
-IsStatus status = (status ≡ 0) ⊎ ((status ≡ 2) ⊎ ((status ≡ 3) ⊎ (status ≡ 4)))
+-- a status says what was written for a state: its table, or nothing for want of width
+abbrev pub AnswersState : Form → State → Option (List ℕ) → Option (List ℕ) → ℕ → Type 0
+AnswersState how s old new status = DoneOrFaulty status (ShowsState how s old new) (LeavesUndrawn how old new)
 
--- what comes of an answer: 4 where writing failed; its own status, and nothing more is written; or 3 where memory ran out, and this was written
+-- what comes of an answer: writing failed; or its own status, and nothing more is written; or memory ran out, and this was written
 abbrev pub Finishes : {U E A : Type 0} → Result (Result U E × ℕ) A → ℕ → Option (List ℕ) → Option (List ℕ) → Type 0
-Finishes answered status old new = (status ≡ 4) ⊎ MatchResult answered (λ a. IsOk a.0 × (status ≡ a.1) × (new ≡ old)) (λ _. (status ≡ 3) × Appends old new memory_line)
+Finishes answered status old new =
+    (status ≡ failed) ⊎ MatchResult answered (λ a. IsOk a.0 × (status ≡ a.1) × (new ≡ old)) (λ _. (status ≡ out_of_memory) × Appends old new memory_line)

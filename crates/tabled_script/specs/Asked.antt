@@ -1,5 +1,5 @@
 -- What a request asks for, beside the script that is read.
-use Rattle.std.specs.Prelude.{◌≡◌, ℕ, List, [], ◌∷◌, ◌++◌, codes, Option, None, Some}
+use Rattle.std.specs.Prelude.{◌≡◌, ℕ, List, [], ◌∷◌, ◌++◌, codes, length, Option, None, Some}
 use Rattle.std.specs.Fmt.{decimal}
 use Rattle.std.specs.Io.KnownBytes.{Appends}
 use Rattle.std.specs.List.{flat_map}
@@ -25,9 +25,17 @@ IsFaulty (Some file) line fault = NoRows file.separator file.bytes.items × IsFa
 abbrev pub row_line : List (List ℕ) → List ℕ
 row_line texts = line (codes "row" ∷ texts)
 
+-- the lines of rows that stand before a script, and how many they are
+abbrev pub AreLinesBefore : Option CsvFile → List ℕ → ℕ → Type 0
+AreLinesBefore file lines n = (rows : List (List (List ℕ))) × StandBefore file rows × (lines ≡ flat_map row_line rows) × (n ≡ length rows)
+
+-- what is read, with lines before it and behind it
+abbrev pub whole_lines : List ℕ → List ℕ → List ℕ → List ℕ
+whole_lines before input behind = before ++ (input ++ behind)
+
 -- a script with rows before its lines, and steps behind them
 abbrev pub whole_script : List (List (List ℕ)) → List ℕ → List ℕ → List ℕ
-whole_script rows input steps = flat_map row_line rows ++ (input ++ steps)
+whole_script rows input steps = whole_lines (flat_map row_line rows) input steps
 
 -- the number that stands for what is wrong with a file
 abbrev pub file_fault_number : Fault → ℕ

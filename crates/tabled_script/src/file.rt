@@ -1,12 +1,12 @@
 //! Scripts behind the rows of a file.
 
 ghost use Rattle.std.specs.Io.KnownBytes.{Appends};
-ghost use Rattle.std.specs.List.{flat_map};
-ghost use Rattle.std.specs.Prelude.{◌≡◌, ◌⊎◌, ℕ, IfErr, IfOk, List, length};
+ghost use Rattle.std.specs.Prelude.{◌≡◌, IfErr, IfOk};
 ghost use Rattle.std.specs.String.{string_bytes};
 ghost use Rattle.tabled_csv.specs.Reading.{AtFault};
 ghost use Rattle.tabled_script.specs.Answer.{memory_line};
-ghost use Rattle.tabled_script.specs.Asked.{IsFaulty, StandBefore, file_fault_line, file_fault_number, row_line};
+ghost use Rattle.tabled_script.specs.Asked.{AreLinesBefore, IsFaulty, file_fault_line, file_fault_number};
+ghost use Rattle.tabled_script.specs.Status.{IsOtherThanDone, faulty, out_of_memory};
 
 use crate::request::CsvFile;
 use crate::respond::{FAILED, FAULTY, finish, write_whole};
@@ -17,7 +17,7 @@ use tabled_csv::{Fault, ReadError, Room, read};
 
 /// The rows of a file as lines of a script, and how many they are. Without a file there are none.
 pub(crate) fn lines_of(alloc: Global, file: &Option<CsvFile>) -> Result<(Vec<u8>, usize), ReadError>
-    ensures lines { IfOk result (λ lines. (rows : List (List (List ℕ))) × StandBefore file.now rows × (lines.0.items ≡ flat_map row_line rows) × (lines.1 ≡ length rows)) }
+    ensures lines { IfOk result (λ lines. AreLinesBefore file.now lines.0.items lines.1) }
     ensures fault { IfErr result (AtFault (IsFaulty file.now)) }
 {
     match file {
@@ -35,9 +35,9 @@ pub(crate) fn lines_of(alloc: Global, file: &Option<CsvFile>) -> Result<(Vec<u8>
 
 /// Writes the line that names a faulty line of a file and its fault, and answers a status.
 pub(crate) fn refuse_file<W: Write>(alloc: Global, line: usize, fault: Fault, writer: &mut W) -> u8
-    ensures known { (result ≡ 2) ⊎ ((result ≡ 3) ⊎ (result ≡ 4)) }
-    ensures faulty { result ≡ 2 → Appends (W.contents writer.old) (W.contents writer.new) (file_fault_line line fault) }
-    ensures memory { result ≡ 3 → Appends (W.contents writer.old) (W.contents writer.new) memory_line }
+    ensures known { IsOtherThanDone result }
+    ensures faulty { result ≡ faulty → Appends (W.contents writer.old) (W.contents writer.new) (file_fault_line line fault) }
+    ensures memory { result ≡ out_of_memory → Appends (W.contents writer.old) (W.contents writer.new) memory_line }
 {
     match fault_line(alloc, line, fault) {
         Ok(line) => match write_whole(writer, line.as_bytes()) {

@@ -1,9 +1,10 @@
 //! What the table that a script ends with is written as.
 
-ghost use Rattle.std.specs.Prelude.{◌≡◌, IfNone, IfOk, IfSome, OnErr, OnOk};
+ghost use Rattle.std.specs.Prelude.{◌≡◌, OnErr};
 ghost use Rattle.tabled_grid.specs.Grid.{IsEven, grid_of, map_items};
 ghost use Rattle.tabled_script.specs.Answer.{LeavesUndrawn, ShowsState};
 ghost use Rattle.tabled_script.specs.InMemory.{state_in};
+ghost use Rattle.tabled_script.specs.Outcome.{IfDrawn, IfUndrawn};
 
 use crate::output::write_script;
 use crate::picture::{write_markdown, write_narrow_picture, write_picture};
@@ -45,8 +46,8 @@ impl Form {
         writer: &mut W,
     ) -> Result<Option<io::Result<()>>, AllocError>
         requires { IsEven (grid_of (map_items records.items)) }
-        ensures written { IfOk result (λ done. IfSome done (λ written. OnOk written (ShowsState self.now (state_in records.entry.items spans.now) (W.contents writer.old) (W.contents writer.new)))) }
-        ensures undrawn { IfOk result (λ done. IfNone done (LeavesUndrawn self.now (W.contents writer.old) (W.contents writer.new))) }
+        ensures written { IfDrawn result (ShowsState self.now (state_in records.entry.items spans.now) (W.contents writer.old) (W.contents writer.new)) }
+        ensures undrawn { IfUndrawn result (LeavesUndrawn self.now (W.contents writer.old) (W.contents writer.new)) }
         ensures refused { OnErr result (W.contents writer.new ≡ W.contents writer.old) }
     {
         match self {

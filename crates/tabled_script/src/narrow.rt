@@ -1,8 +1,7 @@
 //! Texts wrapped so that their table's picture is no wider than is asked for.
 
-ghost use Rattle.std.specs.Prelude.{◌≡◌, ◌≤◌, IfOk, IsTrue, OnOk};
+ghost use Rattle.std.specs.Prelude.{◌≡◌, IfOk, IsTrue, OnOk};
 ghost use Rattle.tabled_grid.specs.Grid.{IsEven, grid_of, map_items};
-ghost use Rattle.tabled_grid.specs.Spans.{AreSpanSizes};
 ghost use Rattle.tabled_script.specs.InMemory.{texts_in};
 ghost use Rattle.tabled_script.specs.Narrow.{AreNarrowed, wrapped_each};
 
@@ -23,7 +22,6 @@ pub(crate) fn narrow(
     width: usize,
 ) -> Result<bool, AllocError>
     requires { IsEven (grid_of (map_items records.old.items)) }
-    ensures sizes { AreSpanSizes spans.now }
     ensures even { IsEven (grid_of (map_items records.new.items)) }
     ensures narrowed { IfOk result (λ fits. IsTrue fits → AreNarrowed width style.now spans.now (texts_in records.old.items) (texts_in records.new.items)) }
 {

@@ -2,7 +2,7 @@
 
 ghost use Rattle.std.specs.Io.KnownBytes.{Appends};
 ghost use Rattle.std.specs.List.{AllByRecursion, flat_map};
-ghost use Rattle.std.specs.Prelude.{◌≡◌, ◌<◌, ◌≤◌, ◌+◌, [], ◌∷◌, ◌++◌, codes, length, map, IfOk, OnErr, OnOk};
+ghost use Rattle.std.specs.Prelude.{◌≡◌, ◌<◌, ◌≤◌, ◌+◌, [], ◌∷◌, codes, length, map, OnErr, OnOk};
 ghost use Rattle.std.specs.Str.{IsUtf8};
 ghost use Rattle.tabled_grid.specs.Grid.{IsEven, grid_of, map_items, width_of};
 ghost use Rattle.tabled_grid.specs.Spans.{rectangles};
@@ -11,6 +11,7 @@ ghost use Rattle.tabled_language.specs.Output.{escaped, line, print, span_line, 
 ghost use Rattle.tabled_language.specs.Word.{largest_size};
 ghost use Rattle.tabled_script.specs.Answer.{IsTableIfFitting};
 ghost use Rattle.tabled_script.specs.InMemory.{state_in, texts_in};
+ghost use Rattle.tabled_script.specs.Outcome.{IfWritten};
 ghost use Rattle.tabled_script.specs.Sent.{Sends};
 
 use crate::held::{
@@ -31,8 +32,8 @@ pub(crate) fn write_script<W: Write>(
     writer: &mut W,
 ) -> Result<io::Result<()>, AllocError>
     requires { IsEven (grid_of (map_items records.items)) }
-    ensures written { IfOk result (λ written. OnOk written (Appends (W.contents writer.old) (W.contents writer.new) (print (state_in records.entry.items spans.now)))) }
-    ensures known { IfOk result (λ written. OnOk written (IsTableIfFitting (state_in records.entry.items spans.now))) }
+    ensures written { IfWritten result (Appends (W.contents writer.old) (W.contents writer.new) (print (state_in records.entry.items spans.now))) }
+    ensures known { IfWritten result (IsTableIfFitting (state_in records.entry.items spans.now)) }
     ensures refused { OnErr result (W.contents writer.new ≡ W.contents writer.old) }
 {
     let mut held = Held::new(alloc)?;

@@ -1,13 +1,13 @@
 //! The picture of a table, and a table as Markdown.
 
 ghost use Rattle.std.specs.Io.KnownBytes.{Appends};
-ghost use Rattle.std.specs.Prelude.{◌≡◌, IfNone, IfOk, IfSome, OnErr, OnOk};
+ghost use Rattle.std.specs.Prelude.{◌≡◌, OnErr, OnOk};
 ghost use Rattle.tabled_draw.specs.Markdown.{markdown};
 ghost use Rattle.tabled_draw.specs.Picture.{drawn_with};
 ghost use Rattle.tabled_grid.specs.Grid.{IsEven, grid_of, map_items};
-ghost use Rattle.tabled_grid.specs.Spans.{AreSpanSizes};
 ghost use Rattle.tabled_script.specs.InMemory.{texts_in};
 ghost use Rattle.tabled_script.specs.Narrow.{WritesNarrowPicture};
+ghost use Rattle.tabled_script.specs.Outcome.{IfDrawn, IfUndrawn, IfWritten};
 
 use crate::narrow::narrow;
 use std::alloc::{AllocError, Global};
@@ -29,9 +29,9 @@ pub(crate) fn write_picture<W: Write>(
     writer: &mut W,
 ) -> Result<io::Result<()>, AllocError>
     requires { IsEven (grid_of (map_items records.items)) }
-    ensures written { IfOk result (λ written. OnOk written (Appends (W.contents writer.old) (W.contents writer.new) (drawn_with style alignments.now (texts_in records.entry.items) spans.now))) }
+    ensures written { IfWritten result (
+        Appends (W.contents writer.old) (W.contents writer.new) (drawn_with style alignments.now (texts_in records.entry.items) spans.now)) }
     ensures refused { OnErr result (W.contents writer.new ≡ W.contents writer.old) }
-    ensures sizes { AreSpanSizes spans.now }
 {
     let look = Look::new(style).align(alignments);
     let drawing = Drawing::with_look(alloc, &records, spans, &look)?;
@@ -50,10 +50,10 @@ pub(crate) fn write_narrow_picture<W: Write>(
     writer: &mut W,
 ) -> Result<Option<io::Result<()>>, AllocError>
     requires { IsEven (grid_of (map_items records.items)) }
-    ensures written { IfOk result (λ done. IfSome done (λ written. OnOk written (WritesNarrowPicture width style alignments.now (texts_in records.entry.items) spans.now (W.contents writer.old) (W.contents writer.new)))) }
-    ensures left { IfOk result (λ done. IfNone done (W.contents writer.new ≡ W.contents writer.old)) }
+    ensures written { IfDrawn result (
+        WritesNarrowPicture width style alignments.now (texts_in records.entry.items) spans.now (W.contents writer.old) (W.contents writer.new)) }
+    ensures left { IfUndrawn result (W.contents writer.new ≡ W.contents writer.old) }
     ensures refused { OnErr result (W.contents writer.new ≡ W.contents writer.old) }
-    ensures sizes { AreSpanSizes spans.now }
 {
     let fits = narrow(alloc, &mut records, spans, &style, width)?;
     if !fits {
@@ -74,9 +74,9 @@ pub(crate) fn write_markdown<W: Write>(
     writer: &mut W,
 ) -> Result<io::Result<()>, AllocError>
     requires { IsEven (grid_of (map_items records.items)) }
-    ensures written { IfOk result (λ written. OnOk written (Appends (W.contents writer.old) (W.contents writer.new) (markdown alignments.now (texts_in records.entry.items) spans.now))) }
+    ensures written { IfWritten result (
+        Appends (W.contents writer.old) (W.contents writer.new) (markdown alignments.now (texts_in records.entry.items) spans.now)) }
     ensures refused { OnErr result (W.contents writer.new ≡ W.contents writer.old) }
-    ensures sizes { AreSpanSizes spans.now }
 {
     let texts = markdown_texts(alloc, &records, spans)?;
     let look = Look::new(Style::markdown()).align(alignments);

@@ -2,10 +2,10 @@
 
 ghost use Rattle.std.specs.Prelude.{◌≡◌, ◌-◌, ◌⊎◌, ℕ, Ok, Err, IfSome, List, length};
 ghost use Rattle.std.specs.Io.KnownBytes.{Appends};
-ghost use Rattle.tabled_grid.specs.Spans.{AreSpanSizes};
 ghost use Rattle.tabled_script.specs.Again.{FitsAtEnd, GivesAgain};
-ghost use Rattle.tabled_script.specs.Answer.{IsStatus, LeavesUndrawn, ShowsState, ended, fault_line, memory_line, output_of, picture_of};
+ghost use Rattle.tabled_script.specs.Answer.{LeavesUndrawn, ShowsState, ended, fault_line, memory_line, output_of, picture_of};
 ghost use Rattle.tabled_script.specs.Asked.{FileFaults, StandBefore, whole_script};
+ghost use Rattle.tabled_script.specs.Status.{IsStatus, done, faulty, out_of_memory};
 ghost use Rattle.tabled_language.specs.Script.{Script as Meaning, parse};
 ghost use Rattle.tabled_language.specs.declared.fault.Fault.{Fault};
 
@@ -30,13 +30,13 @@ use tabled_draw::Style;
 /// flushed, too.
 pub fn run_script<R: Read, W: Write>(alloc: Global, reader: &mut R, writer: &mut W) -> u8
     ensures known { IsStatus result }
-    ensures done { result ≡ 0 → IfSome (R.remaining reader.old) (λ input.
+    ensures done { result ≡ done → IfSome (R.remaining reader.old) (λ input.
         (script : Meaning) × (parse input ≡ Ok script) × Appends (W.contents writer.old) (W.contents writer.new) (output_of script)) }
-    ensures again { result ≡ 0 → IfSome (R.remaining reader.old) (λ input.
+    ensures again { result ≡ done → IfSome (R.remaining reader.old) (λ input.
         (script : Meaning) → parse input ≡ Ok script → FitsAtEnd script → GivesAgain script) }
-    ensures faulty { result ≡ 2 → IfSome (R.remaining reader.old) (λ input.
+    ensures faulty { result ≡ faulty → IfSome (R.remaining reader.old) (λ input.
         (fault : ℕ × Fault) × (parse input ≡ Err fault) × Appends (W.contents writer.old) (W.contents writer.new) (fault_line fault)) }
-    ensures memory { result ≡ 3 → Appends (W.contents writer.old) (W.contents writer.new) memory_line }
+    ensures memory { result ≡ out_of_memory → Appends (W.contents writer.old) (W.contents writer.new) memory_line }
 {
     respond(
         alloc,
@@ -56,13 +56,11 @@ pub fn run_script<R: Read, W: Write>(alloc: Global, reader: &mut R, writer: &mut
 /// - 2, 3, 4: as those of `run_script`. Nothing of the picture is written with 2 or 3.
 pub fn draw_script<R: Read, W: Write>(alloc: Global, reader: &mut R, writer: &mut W) -> u8
     ensures known { IsStatus result }
-    ensures done { result ≡ 0 → IfSome (R.remaining reader.old) (λ input.
+    ensures done { result ≡ done → IfSome (R.remaining reader.old) (λ input.
         (script : Meaning) × (parse input ≡ Ok script) × Appends (W.contents writer.old) (W.contents writer.new) (picture_of script)) }
-    ensures sizes { result ≡ 0 → IfSome (R.remaining reader.old) (λ input.
-        (script : Meaning) → parse input ≡ Ok script → AreSpanSizes (ended script).spans) }
-    ensures faulty { result ≡ 2 → IfSome (R.remaining reader.old) (λ input.
+    ensures faulty { result ≡ faulty → IfSome (R.remaining reader.old) (λ input.
         (fault : ℕ × Fault) × (parse input ≡ Err fault) × Appends (W.contents writer.old) (W.contents writer.new) (fault_line fault)) }
-    ensures memory { result ≡ 3 → Appends (W.contents writer.old) (W.contents writer.new) memory_line }
+    ensures memory { result ≡ out_of_memory → Appends (W.contents writer.old) (W.contents writer.new) memory_line }
 {
     respond(
         alloc,
@@ -101,15 +99,15 @@ pub fn answer<R: Read, W: Write, E: Write>(
     errors: &mut E,
 ) -> u8
     ensures known { IsStatus result }
-    ensures done { result ≡ 0 → IfSome (R.remaining reader.old) (λ input.
+    ensures done { result ≡ done → IfSome (R.remaining reader.old) (λ input.
         (rows : List (List (List ℕ))) × StandBefore request.now.file rows
         × (script : Meaning) × (parse (whole_script rows input request.now.steps.items) ≡ Ok script)
         × ShowsState request.now.form (ended script) (W.contents writer.old) (W.contents writer.new)) }
-    ensures faulty { result ≡ 2 → FileFaults request.now.file (W.contents writer.old) (W.contents writer.new) ⊎ IfSome (R.remaining reader.old) (λ input.
+    ensures faulty { result ≡ faulty → FileFaults request.now.file (W.contents writer.old) (W.contents writer.new) ⊎ IfSome (R.remaining reader.old) (λ input.
         LeavesUndrawn request.now.form (W.contents writer.old) (W.contents writer.new) ⊎ ((rows : List (List (List ℕ))) × StandBefore request.now.file rows
         × (fault : ℕ × Fault) × (parse (whole_script rows input request.now.steps.items) ≡ Err fault)
         × Appends (W.contents writer.old) (W.contents writer.new) (fault_line (fault.0 - length rows, fault.1)))) }
-    ensures memory { result ≡ 3 → Appends (W.contents writer.old) (W.contents writer.new) memory_line }
+    ensures memory { result ≡ out_of_memory → Appends (W.contents writer.old) (W.contents writer.new) memory_line }
 {
     match lines_of(alloc, &request.file) {
         Ok((lines, many)) => respond(alloc, request, lines, many, reader, writer, errors),

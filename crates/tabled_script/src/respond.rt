@@ -1,13 +1,14 @@
 //! A script read, and what answers it written: its table in a form, its first fault, or that memory ran out.
 
 ghost use Rattle.std.specs.Io.KnownBytes.{Appends};
-ghost use Rattle.std.specs.Prelude.{◌≡◌, ◌++◌, ◌⊎◌, ℕ, Ok, Err, IfOk, IfSome, OnErr, OnOk};
+ghost use Rattle.std.specs.Prelude.{◌≡◌, IfOk, IfSome, OnErr, OnOk};
 ghost use Rattle.std.specs.String.{string_bytes};
 ghost use Rattle.tabled_grid.specs.Grid.{IsEven, grid_of, map_items};
-ghost use Rattle.tabled_language.specs.Script.{parse};
-ghost use Rattle.tabled_language.specs.declared.fault.Fault.{Fault};
-ghost use Rattle.tabled_script.specs.Answer.{Answers, Faults, Finishes, IsStatus, LeavesUndrawn, ShowsState, ShowsTable, ended, fault_line, memory_line};
+ghost use Rattle.tabled_script.specs.Answer.{Answers, AnswersState, Finishes, ShowsNoTable, ShowsTable, ended, fault_line, memory_line};
+ghost use Rattle.tabled_script.specs.Asked.{whole_lines};
 ghost use Rattle.tabled_script.specs.InMemory.{said_by, state_in};
+ghost use Rattle.tabled_script.specs.Outcome.{IfAnswered, IfWritten};
+ghost use Rattle.tabled_script.specs.Status.{IsStatus, done, faulty, out_of_memory};
 ghost use Rattle.tabled_steps.specs.States.{after_all};
 
 use crate::checked::run_checked;
@@ -50,9 +51,11 @@ pub(crate) fn respond<R: Read, W: Write, E: Write>(
     errors: &mut E,
 ) -> u8
     ensures known { IsStatus result }
-    ensures done { result ≡ 0 → IfSome (R.remaining reader.old) (λ input. ShowsTable request.now.form (before.items ++ (input ++ request.now.steps.items)) (W.contents writer.old) (W.contents writer.new)) }
-    ensures faulty { result ≡ 2 → IfSome (R.remaining reader.old) (λ input. LeavesUndrawn request.now.form (W.contents writer.old) (W.contents writer.new) ⊎ Faults skipped (before.items ++ (input ++ request.now.steps.items)) (W.contents writer.old) (W.contents writer.new)) }
-    ensures memory { result ≡ 3 → Appends (W.contents writer.old) (W.contents writer.new) memory_line }
+    ensures done { result ≡ done → IfSome (R.remaining reader.old) (λ input.
+        ShowsTable request.now.form (whole_lines before.items input request.now.steps.items) (W.contents writer.old) (W.contents writer.new)) }
+    ensures faulty { result ≡ faulty → IfSome (R.remaining reader.old) (λ input.
+        ShowsNoTable request.now.form skipped (whole_lines before.items input request.now.steps.items) (W.contents writer.old) (W.contents writer.new)) }
+    ensures memory { result ≡ out_of_memory → Appends (W.contents writer.old) (W.contents writer.new) memory_line }
 {
     match read_whole(before, reader, &request.steps) {
         Ok(whole) => {
@@ -78,7 +81,7 @@ fn reply<W: Write, E: Write>(
     writer: &mut W,
     errors: &mut E,
 ) -> Result<(io::Result<()>, u8), AllocError>
-    ensures answered { IfOk result (λ answered. OnOk answered.0 (Answers request.now.form source.entry.before source.entry.bytes.now (W.contents writer.old) (W.contents writer.new) answered.1)) }
+    ensures answered { IfAnswered result (Answers request.now.form source.entry.before source.entry.bytes.now (W.contents writer.old) (W.contents writer.new)) }
     ensures refused { OnErr result (W.contents writer.new ≡ W.contents writer.old) }
 {
     match parse(alloc, source.bytes) {
@@ -105,7 +108,7 @@ fn show<W: Write, E: Write>(
     writer: &mut W,
     errors: &mut E,
 ) -> Result<(io::Result<()>, u8), AllocError>
-    ensures shown { IfOk result (λ answered. OnOk answered.0 (((answered.1 ≡ 0) × ShowsState request.now.form (ended (said_by script.entry)) (W.contents writer.old) (W.contents writer.new)) ⊎ ((answered.1 ≡ 2) × LeavesUndrawn request.now.form (W.contents writer.old) (W.contents writer.new)))) }
+    ensures shown { IfAnswered result (AnswersState request.now.form (ended (said_by script.entry)) (W.contents writer.old) (W.contents writer.new)) }
     ensures refused { OnErr result (W.contents writer.new ≡ W.contents writer.old) }
 {
     let Script {
@@ -162,7 +165,7 @@ fn say<W: Write>(
     fault: (usize, Fault),
     writer: &mut W,
 ) -> Result<io::Result<()>, AllocError>
-    ensures said { IfOk result (λ written. OnOk written (Appends (W.contents writer.old) (W.contents writer.new) (fault_line fault))) }
+    ensures said { IfWritten result (Appends (W.contents writer.old) (W.contents writer.new) (fault_line fault)) }
     ensures refused { OnErr result (W.contents writer.new ≡ W.contents writer.old) }
 {
     let line = fault_line(alloc, fault)?;

@@ -1,6 +1,7 @@
 //! The lines that a script is read from.
 
-ghost use Rattle.std.specs.Prelude.{◌≡◌, ◌++◌, IfOk, IfSome};
+ghost use Rattle.std.specs.Prelude.{◌≡◌, IfOk, IfSome};
+ghost use Rattle.tabled_script.specs.Asked.{whole_lines};
 
 use crate::watched::Watched;
 use std::alloc::{AllocError, Global};
@@ -88,7 +89,7 @@ pub fn read_whole<R: Read>(
     reader: &mut R,
     behind: &[u8],
 ) -> Result<Vec<u8>, Unread>
-    ensures { IfOk result (λ whole. IfSome (R.remaining reader.old) (λ input. whole.items ≡ before.items ++ (input ++ behind.now))) }
+    ensures { IfOk result (λ whole. IfSome (R.remaining reader.old) (λ input. whole.items ≡ whole_lines before.items input behind.now)) }
 {
     let mut whole = before;
     let mut watched = Watched {

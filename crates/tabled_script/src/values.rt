@@ -2,13 +2,14 @@
 
 ghost use Rattle.std.specs.Io.KnownBytes.{Appends};
 ghost use Rattle.std.specs.List.{flat_map};
-ghost use Rattle.std.specs.Prelude.{◌≡◌, ◌<◌, [], ◌++◌, ◌∷◌, codes, IfOk, OnErr, OnOk, length, map};
+ghost use Rattle.std.specs.Prelude.{◌≡◌, ◌<◌, IfOk, OnErr, OnOk, length, map};
 ghost use Rattle.tabled_csv.specs.Texts.{rows_of, text_of};
 ghost use Rattle.tabled_csv.specs.Writing.{csv_of};
 ghost use Rattle.tabled_grid.specs.Grid.{IsEven, grid_of, map_items};
 ghost use Rattle.tabled_language.specs.Output.{line};
 ghost use Rattle.tabled_script.specs.Asked.{row_line};
 ghost use Rattle.tabled_script.specs.InMemory.{texts_in};
+ghost use Rattle.tabled_script.specs.Outcome.{IfWritten};
 ghost use Rattle.tabled_script.specs.Sent.{Sends};
 
 use crate::held::{Held, PART, hold_byte, hold_bytes, send};
@@ -27,7 +28,7 @@ pub(crate) fn write_values<W: Write>(
     writer: &mut W,
 ) -> Result<io::Result<()>, AllocError>
     requires { IsEven (grid_of (map_items records.items)) }
-    ensures written { IfOk result (λ written. OnOk written (Appends (W.contents writer.old) (W.contents writer.new) (csv_of separator (texts_in records.entry.items).cells))) }
+    ensures written { IfWritten result (Appends (W.contents writer.old) (W.contents writer.new) (csv_of separator (texts_in records.entry.items).cells)) }
     ensures refused { OnErr result (W.contents writer.new ≡ W.contents writer.old) }
 {
     match write_records(alloc, writer, separator, &records) {

@@ -31,6 +31,7 @@ pub use Rattle.tabled_grid.proofs.PiecesPut.{inside_of, piece_line, same_count, 
 pub use Rattle.tabled_grid.proofs.Places.{inside-Column, inside-Row, inside-no_cell, inside-no_column, inside-no_row, places}
 pub use Rattle.tabled_grid.proofs.Resized.{IsEven-with_cells_swapped, IsEven-with_columns_swapped, IsEven-with_rows_swapped}
 pub use Rattle.tabled_grid.proofs.Transposed.{slice_get-some, slice_get-take}
+pub use Rattle.tabled_grid.proofs.SortedEntries.{span_at}
 pub use Rattle.tabled_grid.specs.Along.{along}
 pub use Rattle.tabled_grid.specs.Bounds.{end_index, first_index}
 pub use Rattle.tabled_grid.specs.Places.{ReadsThrough}

@@ -1,6 +1,6 @@
 -- Where the rectangles of a table go that is turned, and merged cells turned to the left and back.
 use Rattle.std.proofs.lemmas.Grind.{common_steps}
-use Rattle.tabled_settings.proofs.Common.{◌+◌, ◌-◌, ◌<◌, ◌≡◌, ◌≤◌, ◌⊎◌, Axis, Bottom, Carries, Columns, Fits, HasArea, In, Left, Position, Rectangle, Right, Rotate, Rows, SpanMap, Takes, Top, across, across_is, ap, ap₂, arith, carried, carried_back, count_of, inl, inr, line_is, line_of, place, place_in, quarter_of, rectangle, refl, rotated, sized, subst, sym, upside_down, ℕ}
+use Rattle.tabled_settings.proofs.Common.{◌+◌, ◌-◌, ◌<◌, ◌≡◌, ◌≤◌, ◌⊎◌, Axis, Bottom, Carries, Columns, Fits, HasArea, In, Left, Position, Rectangle, Right, Rotate, Rows, SpanMap, Takes, Top, across, across_is, ap, ap₂, arith, carried, carried_back, count_of, inl, inr, line_is, line_of, place, place_in, quarter_of, rectangle, refl, rotated, sized, span_at, subst, sym, upside_down, ℕ}
 use Rattle.tabled_settings.proofs.AlongLines.{LiesAlong, is_along, is_in, lies_along}
 use Rattle.tabled_settings.proofs.MirroredSpans.{lines_carry}
 use Rattle.tabled_settings.proofs.Rotated.{taken_turned, takes_turned, as_wide, left_leads_back}
@@ -118,4 +118,4 @@ pub left_then_right_spans : (rows columns : ℕ) → 0 < rows → 0 < columns �
 left_then_right_spans rows columns tall wide m fits =
     subst (λ (n : ℕ). carried (rotated Right columns rows) columns n (carried (rotated Left rows columns) rows columns m) ≡ m) (as_wide columns rows wide)
     (carried_back (rotated Left rows columns) (rotated Right columns rows) (left_leads_back rows columns) m rows columns fits
-    (record { each = λ a s h. let size = fits.sizes.each a s h in let room = fits.inside a s h in (turned Left rows columns (rectangle a s), turned_carries Left rows columns (rectangle a s) room.0 room.1, turned_full Left rows columns (rectangle a s) (record { height = size.height; width = size.width })) }))
+    (record { each = λ a s h. let size = span_at m a s h in let room = fits.inside a s h in (turned Left rows columns (rectangle a s), turned_carries Left rows columns (rectangle a s) room.0 room.1, turned_full Left rows columns (rectangle a s) (record { height = size.height; width = size.width })) }))

@@ -1,5 +1,5 @@
 -- What a search of the anchors tells.
-use Rattle.tabled_spans.proofs.Common.{[], ◌&&◌, ◌-◌, ◌<◌, ◌==◌, ◌∙◌, ◌∷◌, ◌≡◌, ◌≤◌, ◌⊎◌, AllByRecursion, AreSorted, AreSpanSizes, Below, Bool, Earlier, Err, IsBinarySearchResult, IsSearchInRange, List, MatchResult, None, Ok, Position, Rectangle, Result, Size, Some, SpanMap, StandBelow, ap, arith, below_at, both, cases_Bool, cond, drop, drop_all, earlier, equal, false, find_at, get, get-rectangles, get_or, inl, inr, is_cell, is_eq, length, ne_eqb, not, position_cmp, positions_exact, rectangle, rectangles, rectangles_sorted, refl, searched, size_at, sized, subst, suc, sym, take, true, zero, ℕ}
+use Rattle.tabled_spans.proofs.Common.{[], ◌&&◌, ◌-◌, ◌<◌, ◌==◌, ◌∙◌, ◌∷◌, ◌≡◌, ◌≤◌, ◌⊎◌, AllByRecursion, AreSorted, Below, Bool, Earlier, Err, IsBinarySearchResult, IsSearchInRange, List, MatchResult, None, Ok, Position, Rectangle, Result, Size, Some, SpanMap, StandBelow, ap, arith, below_at, both, cases_Bool, cond, drop, drop_all, earlier, equal, false, find_at, get, get-rectangles, get_or, inl, inr, is_cell, is_eq, length, ne_eqb, not, position_cmp, positions_exact, rectangle, rectangles, rectangles_sorted, refl, searched, size_at, sized, span_at, subst, suc, sym, take, true, zero, ℕ}
 use Rattle.std.specs.Result.{is_ok}
 use Rattle.tabled_grid.proofs.SortedEntries.{halves}
 use Rattle.tabled_spans.proofs.RunLists.{all_then}
@@ -58,8 +58,8 @@ module _ (m : SpanMap) (p : Position) (many : ℕ) (s : StandBelow m p.row many)
       no_anchor m p (get-rectangles m p ∙ sym (found_first p many (rectangles m) s.below) ∙ none_apart p (take many (rectangles m)) (all_then (λ e low same. omega (arith, low, same, past)) (take many (rectangles m)) rows))
 
   -- a search of the first anchors finds a place where its size isn't that of one cell
-  pub anchor_found : (r : Result ℕ ℕ) → AreSpanSizes m → IsSearchInRange r (length (take many (rectangles m))) → IsBinarySearchResult (λ (e : Rectangle). position_cmp e.first p) (take many (rectangles m)) r → is_ok r ≡ not (is_cell (size_at m p))
-  anchor_found r sizes within found = tell r (searched (take many (rectangles m)) p r (sorted_take many (rectangles m) (rectangles_sorted m)) within found)
+  pub anchor_found : (r : Result ℕ ℕ) → IsSearchInRange r (length (take many (rectangles m))) → IsBinarySearchResult (λ (e : Rectangle). position_cmp e.first p) (take many (rectangles m)) r → is_ok r ≡ not (is_cell (size_at m p))
+  anchor_found r within found = tell r (searched (take many (rectangles m)) p r (sorted_take many (rectangles m) (rectangles_sorted m)) within found)
     where
       second : (a : Bool) → (a && false) ≡ false
       second true = refl
@@ -72,7 +72,7 @@ module _ (m : SpanMap) (p : Position) (many : ℕ) (s : StandBelow m p.row many)
       tell : (r : Result ℕ ℕ) → MatchResult r (λ i. (d : Rectangle) → find_at p (take many (rectangles m)) ≡ Some (get_or (take many (rectangles m)) i d).size) (λ i. find_at p (take many (rectangles m)) ≡ None) → is_ok r ≡ not (is_cell (size_at m p))
       tell (Ok i) at =
           let is = get-rectangles m p ∙ sym (found_first p many (rectangles m) s.below) ∙ at (rectangle p (sized 1 1)) in
-          rw (is, more _ (sizes.each p _ is).merges) refl
+          rw (is, more _ (span_at m p _ is).merges) refl
       tell (Err i) none = no_anchor m p (get-rectangles m p ∙ sym (found_first p many (rectangles m) s.below) ∙ none)
 
 -- what stands below a row stands below those above it

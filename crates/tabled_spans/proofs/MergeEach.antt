@@ -4,26 +4,15 @@ use Rattle.std.specs.FinMap.{find}
 use Rattle.std.specs.FinMap.Entries.{find-where_key}
 use Rattle.tabled_grid.proofs.Members.{sorted-filter}
 use Rattle.tabled_grid.proofs.SortedEntries.{find_at, pairs-filter}
-use Rattle.tabled_spans.proofs.Common.{[], ◌<◌, ◌∙◌, ◌∷◌, ◌≡◌, ◌≤◌, ◌⊎◌, AllByRecursion, AreSorted, Axis, Bool, Columns, Entity, Grid, In, IsInside, IsOfRun, IsRun, IsSizeAt, Joins, List, MergesRuns, None, Option, Position, Rectangle, Rows, RunsFrom, RunsOf, Size, Some, SpanMap, across, ap, ap₂, arith, cases_Bool, cases_place, cond, count_along, false, false≢true, filter, find, further, get, inl, inr, is_eq, lines_in, map_grid, none-some, not, positions_exact, positions_total, refl, same_Some, same_map, size_of_run, subst, sym, tied, true, untied, with_sizes, ℕ}
+use Rattle.tabled_spans.proofs.Common.{[], ◌<◌, ◌∙◌, ◌∷◌, ◌≡◌, ◌≤◌, ◌⊎◌, AllByRecursion, AreSorted, Axis, Bool, Columns, Entity, Grid, In, IsInside, IsOfRun, IsRun, IsSizeAt, Joins, List, MergesRuns, None, Option, Position, Rectangle, Rows, RunsFrom, RunsOf, Size, Some, SpanMap, across, ap, ap₂, arith, cases_Bool, cond, count_along, false, false≢true, filter, find, further, get, inl, inr, lines_in, map_grid, none-some, not, positions_exact, refl, same_map, size_of_run, subst, sym, true, with_sizes, ℕ}
 use Rattle.tabled_grid.specs.declared.config.entity.Entity.TheVariants.{Global}
 use Rattle.tabled_grid.specs.Spans.{pairs, position_cmp, rectangle}
 use Rattle.tabled_options.specs.Does.{Change, Each, EachUntil, Same, SameOr}
 use Rattle.tabled_spans.proofs.LineRuns.{none_left, run_all, run_before, run_named, run_on, run_still}
 use Rattle.tabled_spans.proofs.RunLists.{all_then, begins_named, none_before, set_run, sizes_full}
 use Rattle.tabled_spans.proofs.Runs.{further_none}
-use Rattle.tabled_spans.proofs.SetSizes.{get-with_sizes, set_or}
+use Rattle.tabled_spans.proofs.SetSizes.{found_in, get-with_sizes, set_or}
 use Rattle.tabled_spans.specs.Lines.{MergesEach, RunsIn, is_named_by, line_at, names_line}
-
--- what holds of all that is listed holds of what is found
-found_in : (P : Rectangle → Type 0) (es : List Rectangle) → AllByRecursion P es → (p : Position) (s : Size) → find_at p es ≡ Some s → P (rectangle p s)
-found_in P [] all p s is = absurd (none-some s is)
-found_in P (e ∷ es) all p s is = elim (cases_place p e.first) [
-  | inl same ↦
-      let here = subst (λ x. is_eq (position_cmp p x) ≡ true) same (tied p) in
-      let size = same_Some e.size s (sym (ap (λ b. cond b (Some e.size) (find_at p es)) here) ∙ is) in
-      subst P (ap₂ rectangle (sym same) size) all.0
-  | inr other ↦ found_in P es all.1 p s (sym (ap (λ b. cond b (Some e.size) (find_at p es)) (untied p e.first other)) ∙ is)
-]
 
 -- the rectangles that are anchored where a test of places says yes
 abbrev kept_at : (Position → Bool) → List Rectangle → List Rectangle
@@ -96,7 +85,7 @@ module _ (axis : Axis) (g : Grid (List ℕ)) where
         all p many is_in run (inr f) = find_kept (λ q. not (test q)) p es ∙ ap (λ b. cond (not b) (find_at p es) None) f ∙ found.all p many (ap (λ b. b || others (line_at axis p)) f ∙ is_in) (run_before axis e g m middle merged_here p many f run)
 
     joined : with_sizes middle rest ≡ with_sizes m es
-    joined = same_map positions_total positions_exact _ _ (λ q.
+    joined = same_map _ _ (λ q.
         get-with_sizes rest middle q (sorted-filter (λ (e : Rectangle). not (test e.first)) es found.sorted)
         ∙ ap₂ set_or (find_kept (λ p. not (test p)) q es) (in_middle q)
         ∙ (elim (test q) as (λ b. set_or (cond (not b) (find_at q es) None) (set_or (cond b (find_at q es) None) (get m q)) ≡ set_or (find_at q es) (get m q)) [ true ↦ twice (find_at q es) (get m q) | false ↦ refl ])
@@ -106,7 +95,7 @@ module _ (axis : Axis) (g : Grid (List ℕ)) where
         twice o old = refl
 
   pub each_merged : (es : List Entity) (m : SpanMap) (sizes : List Rectangle) → AreFound (is_named_by axis es) m sizes → MergesEach axis es g m (with_sizes m sizes)
-  each_merged [] m sizes found = same_map positions_total positions_exact _ _ (λ q. get-with_sizes sizes m q found.sorted ∙ none q (find_at q sizes) refl)
+  each_merged [] m sizes found = same_map _ _ (λ q. get-with_sizes sizes m q found.sorted ∙ none q (find_at q sizes) refl)
     where
       none : (q : Position) (o : Option Size) → find_at q sizes ≡ o → set_or (find_at q sizes) (get m q) ≡ get m q
       none q None is = ap (λ (o : Option Size). set_or o (get m q)) is

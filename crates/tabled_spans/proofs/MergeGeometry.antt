@@ -1,5 +1,5 @@
 -- Rectangles lie well after runs are merged where they did before, and a second merge finds no runs.
-use Rattle.tabled_spans.proofs.Common.{◌+◌, ◌-◌, ◌<◌, ◌∙◌, ◌≡◌, ◌≤◌, ◌⊎◌, Axis, Columns, Entity, Fits, Grid, In, IsInside, IsRun, IsSpanSize, List, MergesRuns, Position, Rows, Size, Some, SpanMap, and_parts, ap, ap₂, arith, cases_lt, eqb-true, further, get, holds-from, holds-true, inl, inr, is_free, place, rectangle, same_Some, size_at, size_at-some, size_of_run, subst, sym, true, visible, ℕ}
+use Rattle.tabled_spans.proofs.Common.{◌+◌, ◌-◌, ◌<◌, ◌∙◌, ◌≡◌, ◌≤◌, ◌⊎◌, Axis, Columns, Entity, Fits, Grid, In, IsInside, IsRun, IsSpanSize, List, MergesRuns, Position, Rows, Size, Some, SpanMap, and_parts, ap, ap₂, arith, cases_lt, eqb-true, further, get, holds-from, holds-true, inl, inr, is_free, place, rectangle, same_Some, size_at, size_at-some, size_of_run, span_at, subst, sym, true, visible, ℕ}
 use Rattle.tabled_spans.proofs.Runs.{further_more, further_none}
 
 -- a place of a run's rectangle is n cells from its first
@@ -10,10 +10,6 @@ cell_of Columns a p many h = (p.col - a.col, omega (arith, h.left, h.right), ap�
 further_back : (axis : Axis) (a b : Position) (k l : ℕ) → further axis k a ≡ further axis l b → k ≤ l → a ≡ further axis (l - k) b
 further_back Rows a b k l e h = ap₂ place (omega (arith, h, ap (λ (x : Position). x.row) e)) (ap (λ (x : Position). x.col) e)
 further_back Columns a b k l e h = ap₂ place (ap (λ (x : Position). x.row) e) (omega (arith, h, ap (λ (x : Position). x.col) e))
-
-size_is_more : (axis : Axis) (many : ℕ) → 2 ≤ many → IsSpanSize (size_of_run axis many)
-size_is_more Rows many h = record { height = omega arith; width = omega arith; merges = inl h }
-size_is_more Columns many h = record { height = omega arith; width = omega arith; merges = inr h }
 
 module _ (axis : Axis) (entity : Entity) (g : Grid (List ℕ)) (m : SpanMap) where
   pub record FreeCell (p : Position) : Type 0 where
@@ -57,7 +53,7 @@ module _ (axis : Axis) (entity : Entity) (g : Grid (List ℕ)) (m : SpanMap) whe
       let ones = and_parts _ _ parts.1 in
       let same : b ≡ p = visible m p parts.0 b (rw (size_at-some m b t has) hb) in
       let size : size_at m p ≡ t = size_at-some m p t (subst (λ x. get m x ≡ Some t) same has) in
-      one t (fits.sizes.each b t has) (sym (ap (λ (s : Size). s.height) size) ∙ eqb-true _ _ ones.0) (sym (ap (λ (s : Size). s.width) size) ∙ eqb-true _ _ ones.1)
+      one t (span_at m b t has) (sym (ap (λ (s : Size). s.height) size) ∙ eqb-true _ _ ones.0) (sym (ap (λ (s : Size). s.width) size) ∙ eqb-true _ _ ones.1)
     where
       one : (s : Size) → IsSpanSize s → s.height ≡ 1 → s.width ≡ 1 → ⊥
       one s is e f = elim is.merges [ inl h ↦ omega (arith, h, e) | inr h ↦ omega (arith, h, f) ]
@@ -82,12 +78,8 @@ module _ (axis : Axis) (entity : Entity) (g : Grid (List ℕ)) (m : SpanMap) whe
     ]
 
     pub fits_merged : Fits n g.rows g.columns
-    fits_merged = record { sizes = record { each = λ a s has. size a s (anchor a s has) }; inside = λ a s has. inside a s (anchor a s has); apart = λ a b s t p ha hb ia ib. apart a b s t p (holds-true (rectangle a s) p ia) (holds-true (rectangle b t) p ib) (anchor a s ha) (anchor b t hb) }
+    fits_merged = record { inside = λ a s has. inside a s (anchor a s has); apart = λ a b s t p ha hb ia ib. apart a b s t p (holds-true (rectangle a s) p ia) (holds-true (rectangle b t) p ib) (anchor a s ha) (anchor b t hb) }
       where
-        size : (a : Position) (s : Size) → Anchored a s → IsSpanSize s
-        size a s (of_run many run e) = subst IsSpanSize (sym e) (size_is_more axis many run.some)
-        size a s (of_old has) = fits.sizes.each a s has
-
         inside : (a : Position) (s : Size) → Anchored a s → (a.row + s.height ≤ g.rows) × (a.col + s.width ≤ g.columns)
         inside a s (of_run many run e) = rw e (run_inside a many run)
         inside a s (of_old has) = fits.inside a s has

@@ -1,6 +1,6 @@
 -- A second merge finds no runs, and a merge of a map without rectangles finds those of equal texts.
-use Rattle.tabled_spans.proofs.Common.{◌+◌, ◌-◌, ◌<◌, ◌∙◌, ◌≡◌, ◌≢◌, ◌≤◌, ◌⊎◌, Axis, Columns, Entity, Grid, In, IsNamed, IsRun, Joins, List, MergesRuns, Position, Rows, Size, Some, SpanMap, and_from, and_parts, ap, ap₂, arith, cases_lt, cell_at, common_steps, eq-eqb, eqb-true, false_from_ne_true, false≢true, further, get, get-empty, hidden-from, hidden_by, inl, inr, is_free, is_hidden, is_visible, none-some, not_from_false, not_from_true, place, position_cmp, positions_exact, positions_total, rectangle, refl, same_Some, same_map, size_at, size_at-some, size_of_run, sized, subst, suc, sym, true, unwrap_or, zero, ℕ}
-use Rattle.std.specs.FinMap as map
+use Rattle.tabled_spans.proofs.Common.{[], ◌+◌, ◌-◌, ◌<◌, ◌∙◌, ◌≡◌, ◌≢◌, ◌≤◌, ◌⊎◌, Axis, Columns, Entity, Grid, In, IsNamed, IsRun, Joins, List, MergesRuns, None, Position, Rows, Size, Some, SpanMap, and_from, and_parts, ap, ap₂, arith, cases_lt, cell_at, common_steps, eq-eqb, eqb-true, false_from_ne_true, false≢true, further, get, get-map_of, hidden-from, hidden_by, inl, inr, is_free, is_hidden, is_visible, none-some, not_from_false, not_from_true, place, rectangle, refl, same_Some, same_map, size_at, size_at-some, size_of_run, sized, subst, suc, sym, true, unwrap_or, zero, ℕ}
+use Rattle.tabled_grid.specs.Spans.{empty, empty-is}
 use Rattle.tabled_spans.proofs.MergeGeometry.{run_cell}
 use Rattle.tabled_spans.proofs.Runs.{further_back, further_none, same_run}
 
@@ -97,23 +97,26 @@ module _ (axis : Axis) (entity : Entity) (g : Grid (List ℕ)) (m : SpanMap) whe
         in_a_run p (was_joined p j) (none_free p j.free)
 
     pub merged_once : (k : SpanMap) → MergesRuns axis entity g n k → k ≡ n
-    merged_once k again = same_map positions_total positions_exact k n (λ p. elim (again.each p) [ inl run ↦ absurd (no_more p run.0 run.1) | inr old ↦ old.1 ])
+    merged_once k again = same_map k n (λ p. elim (again.each p) [ inl run ↦ absurd (no_more p run.0 run.1) | inr old ↦ old.1 ])
 
--- without rectangles each cell is free
-free_in_none : (p : Position) → is_free map.empty p ≡ true
-free_in_none p = free_by map.empty p (not_from_false (is_hidden map.empty p) (false_from_ne_true (is_hidden map.empty p) (λ hidden. let by = hidden_by map.empty p hidden in none-some by.size (sym (get-empty position_cmp by.anchor) ∙ by.has)))) (ap (λ o. unwrap_or o (sized 1 1)) (get-empty position_cmp p))
+-- without rectangles no size is found, and each cell is free
+get-empty : (p : Position) → get empty p ≡ None
+get-empty p = ap (λ (m : SpanMap). get m p) empty-is ∙ get-map_of [] p (record { sorted = tt; sizes = tt })
 
-pub joins_in_none : (axis : Axis) (entity : Entity) (g : Grid (List ℕ)) (p : Position) → IsNamed entity g p → IsNamed entity g (further axis 1 p) → cell_at g p ≡ cell_at g (further axis 1 p) → Joins axis entity g map.empty p
+free_in_none : (p : Position) → is_free empty p ≡ true
+free_in_none p = free_by empty p (not_from_false (is_hidden empty p) (false_from_ne_true (is_hidden empty p) (λ hidden. let by = hidden_by empty p hidden in none-some by.size (sym (get-empty by.anchor) ∙ by.has)))) (ap (λ o. unwrap_or o (sized 1 1)) (get-empty p))
+
+pub joins_in_none : (axis : Axis) (entity : Entity) (g : Grid (List ℕ)) (p : Position) → IsNamed entity g p → IsNamed entity g (further axis 1 p) → cell_at g p ≡ cell_at g (further axis 1 p) → Joins axis entity g empty p
 joins_in_none axis entity g p here next same = record { here = here; next = next; free = free_in_none p; next_free = free_in_none (further axis 1 p); same = same }
 
-pub run_is_merged : (axis : Axis) (entity : Entity) (g : Grid (List ℕ)) (n : SpanMap) (p : Position) (many : ℕ) → MergesRuns axis entity g map.empty n → IsRun axis entity g map.empty p many → get n p ≡ Some (size_of_run axis many)
+pub run_is_merged : (axis : Axis) (entity : Entity) (g : Grid (List ℕ)) (n : SpanMap) (p : Position) (many : ℕ) → MergesRuns axis entity g empty n → IsRun axis entity g empty p many → get n p ≡ Some (size_of_run axis many)
 run_is_merged axis entity g n p many merged run = elim (merged.each p) [
-  | inl it ↦ it.2 ∙ ap (λ b. Some (size_of_run axis b)) (same_run axis entity g map.empty p it.0 many it.1 run)
+  | inl it ↦ it.2 ∙ ap (λ b. Some (size_of_run axis b)) (same_run axis entity g empty p it.0 many it.1 run)
   | inr it ↦ absurd (it.0 many run)
 ]
 
-pub merged_is_run : (axis : Axis) (entity : Entity) (g : Grid (List ℕ)) (n : SpanMap) (p : Position) (size : Size) → MergesRuns axis entity g map.empty n → get n p ≡ Some size → (many : ℕ) × IsRun axis entity g map.empty p many × (size ≡ size_of_run axis many)
+pub merged_is_run : (axis : Axis) (entity : Entity) (g : Grid (List ℕ)) (n : SpanMap) (p : Position) (size : Size) → MergesRuns axis entity g empty n → get n p ≡ Some size → (many : ℕ) × IsRun axis entity g empty p many × (size ≡ size_of_run axis many)
 merged_is_run axis entity g n p size merged has = elim (merged.each p) [
   | inl it ↦ (it.0, it.1, same_Some size (size_of_run axis it.0) (sym has ∙ it.2))
-  | inr it ↦ absurd (none-some size (sym (get-empty position_cmp p) ∙ sym it.1 ∙ has))
+  | inr it ↦ absurd (none-some size (sym (get-empty p) ∙ sym it.1 ∙ has))
 ]

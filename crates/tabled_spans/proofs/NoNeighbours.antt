@@ -1,5 +1,5 @@
 -- Entities that name no two neighbours along an axis.
-use Rattle.tabled_spans.proofs.Common.{◌+◌, ◌≡◌, Axis, Columns, Entity, Grid, IsRun, List, MergesRuns, NamesNoNeighbours, Position, Rows, SpanMap, and_parts, arith, eqb-true, further, inl, inr, positions_exact, positions_total, same_map, ℕ}
+use Rattle.tabled_spans.proofs.Common.{◌+◌, ◌≡◌, Axis, Columns, Entity, Grid, IsRun, List, MergesRuns, NamesNoNeighbours, Position, Rows, SpanMap, and_parts, arith, eqb-true, further, inl, inr, same_map, ℕ}
 use Rattle.tabled_grid.specs.declared.config.entity.Entity.TheVariants.{Cell, Column, Row}
 
 pub none_in_row : (i : ℕ) (g : Grid (List ℕ)) → NamesNoNeighbours Rows (Row i) g
@@ -17,4 +17,4 @@ module _ (axis : Axis) (e : Entity) (g : Grid (List ℕ)) (m n : SpanMap) (none 
   no_run p many run = let j = run.joins 0 (omega (arith, run.some)) in none (further axis 0 p) j.here j.next
 
   pub none_changed : MergesRuns axis e g m n → n ≡ m
-  none_changed merged = same_map positions_total positions_exact n m (λ p. elim (merged.each p) [ inl run ↦ absurd (no_run p run.0 run.1) | inr old ↦ old.1 ])
+  none_changed merged = same_map n m (λ p. elim (merged.each p) [ inl run ↦ absurd (no_run p run.0 run.1) | inr old ↦ old.1 ])

@@ -1,12 +1,12 @@
 -- Rectangles lie well after a panel where they did before it.
-use Rattle.tabled_spans.proofs.Common.{◌+◌, ◌<◌, ◌∙◌, ◌≡◌, ◌≤◌, ◌⊎◌, Axis, Columns, Fits, Grid, In, List, None, Panels, Position, Rows, Size, Some, SpanMap, across, and_parts, ap, ap₂, arith, cases_Bool, cases_lt, cases_place, cond, cond-true, count_along, eqb-true, false, false_from_ne_true, fits_below, fits_beside, fits_with, get, get-remove, has_room, inl, inr, is_crossed, leb-true, line_is_free, nat_eq, not-true, place_in, positions_exact, positions_total, rectangle, same_map, shifted, sized, subst, sym, tied, with_line_at, with_panel, with_size, with_size-other, ℕ}
+use Rattle.tabled_spans.proofs.Common.{◌+◌, ◌<◌, ◌∙◌, ◌≡◌, ◌≤◌, ◌⊎◌, Axis, Columns, Fits, Grid, In, List, None, Panels, Position, Rows, Size, Some, SpanMap, across, and_parts, ap, ap₂, arith, cases_Bool, cases_lt, cases_place, cond, cond-true, count_along, eqb-true, false, false_from_ne_true, fits_below, fits_beside, fits_with, get, get-remove, has_room, inl, inr, is_crossed, leb-true, line_is_free, nat_eq, not-true, place_in, rectangle, same_map, shifted, sized, subst, sym, tied, with_line_at, with_panel, with_size, with_size-other, ℕ}
 use borrow.Author.Tests.{ltb-true}
 use Rattle.tabled_spans.proofs.PanelMaps.{no_anchor}
 
 -- the size of one cell where there is no anchor changes nothing
 pub one_cell : (m : SpanMap) (p : Position) → get m p ≡ None → with_size m p (sized 1 1) ≡ m
-one_cell m p absent = same_map positions_total positions_exact (with_size m p (sized 1 1)) m (λ q. elim (cases_place q p) [
-  | inl e ↦ ap (get (with_size m p (sized 1 1))) e ∙ get-remove positions_total m p p ∙ cond-true _ _ _ (tied p) ∙ sym absent ∙ ap (get m) (sym e)
+one_cell m p absent = same_map (with_size m p (sized 1 1)) m (λ q. elim (cases_place q p) [
+  | inl e ↦ ap (get (with_size m p (sized 1 1))) e ∙ get-remove m p p ∙ cond-true _ _ _ (tied p) ∙ sym absent ∙ ap (get m) (sym e)
   | inr n ↦ with_size-other m p (sized 1 1) q n
 ])
 

@@ -20,8 +20,8 @@ no_anchor axis line m = elim (at (shifted axis line m) (place_in axis line 0)) [
 
 pub panel_merged : (axis : Axis) (line many : ℕ) (m : SpanMap) → 1 ≤ many → with_span (across axis) (shifted axis line m) (place_in axis line 0) many ≡ with_panel axis line many m
 panel_merged Rows line many m h =
-    let here : size_at (shifted Rows line m) (place_in Rows line 0) ≡ sized 1 1 = size_at-none _ (place_in Rows line 0) (no_anchor Rows line m) in
+    let here : size_at (shifted Rows line m) (place_in Rows line 0) ≡ sized 1 1 = size_at-none (shifted Rows line m) (place_in Rows line 0) (no_anchor Rows line m) in
     column_span-is (shifted Rows line m) (place_in Rows line 0) many h ∙ ap (λ (s : Size). with_size (shifted Rows line m) (place_in Rows line 0) (sized s.height many)) here
 panel_merged Columns line many m h =
-    let here : size_at (shifted Columns line m) (place_in Columns line 0) ≡ sized 1 1 = size_at-none _ (place_in Columns line 0) (no_anchor Columns line m) in
+    let here : size_at (shifted Columns line m) (place_in Columns line 0) ≡ sized 1 1 = size_at-none (shifted Columns line m) (place_in Columns line 0) (no_anchor Columns line m) in
     row_span-is (shifted Columns line m) (place_in Columns line 0) many h ∙ ap (λ (s : Size). with_size (shifted Columns line m) (place_in Columns line 0) (sized many s.width)) here

@@ -1,7 +1,7 @@
 -- The order of places, row by row, and the map in which runs that are listed are rectangles.
-use Rattle.tabled_spans.proofs.Common.{AllByRecursion, Axis, Before, Bool, Columns, Entity, Grid, IsNamed, IsOfRun, IsRun, IsSizeAt, List, MergesRuns, None, Option, Position, Rectangle, Rows, RunsOf, Size, Some, SpanMap, [], and_left, ap, ap₂, arith, cases_lt, cases_place, common_steps, cond, false, find_at, if◌then◌else◌, inl, inr, is_cell, ne_eqb, none-some, place, size_of_run, subst, sym, untied, with_sizes, ℕ, ◌+◌, ◌<◌, ◌∙◌, ◌∷◌, ◌≡◌, ◌≤◌, ◌⊎◌}
+use Rattle.tabled_spans.proofs.Common.{AllByRecursion, Axis, Before, Bool, Columns, Entity, Grid, IsNamed, IsOfRun, IsRun, IsSizeAt, IsSpanSize, List, MergesRuns, None, Option, Position, Rectangle, Rows, RunsOf, Size, Some, SpanMap, [], ap, ap₂, arith, cases_lt, find_at, get, if◌then◌else◌, inl, inr, is_span, none-some, place, refl, size_of_run, span-from, subst, sym, true, with_sizes, ℕ, ◌+◌, ◌<◌, ◌∙◌, ◌∷◌, ◌≡◌, ◌≤◌, ◌⊎◌}
 use Rattle.tabled_spans.proofs.Runs.{further_none}
-use Rattle.tabled_spans.proofs.SetSizes.{get-with_sizes, set_or}
+use Rattle.tabled_spans.proofs.SetSizes.{found_in, get-with_sizes, set_or}
 
 pub all_then : {A : Type 0} {P Q : A → Type 0} → ((x : A) → P x → Q x) → (xs : List A) → AllByRecursion P xs → AllByRecursion Q xs
 all_then f [] all = tt
@@ -29,12 +29,16 @@ pub next_row : (i j left : ℕ) (p : Position) → Before i j p → Before (i + 
 next_row i j left p (inl above) = inl (omega arith)
 next_row i j left p (inr h) = inl (omega (arith, h.0))
 
-not_one : (axis : Axis) (many : ℕ) → 2 ≤ many → is_cell (size_of_run axis many) ≡ false
-not_one Rows many two = and_left _ _ (ne_eqb many 1 (λ e. omega (arith, e, two)))
-not_one Columns many two = ne_eqb many 1 (λ e. omega (arith, e, two))
+-- a run has more than one cell
+run_is_span : (axis : Axis) (many : ℕ) → 2 ≤ many → is_span (size_of_run axis many) ≡ true
+run_is_span axis many two = span-from (size_of_run axis many) (by axis)
+  where
+    by : (x : Axis) → IsSpanSize (size_of_run x many)
+    by Rows = record { height = omega arith; width = omega arith; merges = inl two }
+    by Columns = record { height = omega arith; width = omega arith; merges = inr two }
 
 pub set_run : (axis : Axis) (many : ℕ) → 2 ≤ many → (old : Option Size) → set_or (Some (size_of_run axis many)) old ≡ Some (size_of_run axis many)
-set_run axis many two old = ap (λ (b : Bool). if b then None else Some (size_of_run axis many)) (not_one axis many two)
+set_run axis many two old = ap (λ (b : Bool). if b then Some (size_of_run axis many) else None) (run_is_span axis many two)
 
 module _ (axis : Axis) (entity : Entity) (g : Grid (List ℕ)) (m : SpanMap) where
   -- a run begins at a cell that is named
@@ -49,12 +53,11 @@ module _ (axis : Axis) (entity : Entity) (g : Grid (List ℕ)) (m : SpanMap) whe
   pub sizes_full : (es : List Rectangle) → AllByRecursion (IsOfRun axis entity g m) es → AllByRecursion IsSizeAt es
   sizes_full es each = all_then {Q = IsSizeAt} (λ anchor it. of_run axis anchor it.0 it.1.some it.2) es each
 
-  entry_of : (es : List Rectangle) → AllByRecursion (IsOfRun axis entity g m) es → (p : Position) (s : Size) → find_at p es ≡ Some s → (many : ℕ) × IsRun axis entity g m p many
-  entry_of [] each p s is = absurd (none-some s is)
-  entry_of (e ∷ es) each p s is = elim (cases_place p e.first) [
-    | inl same ↦ (each.0.0, subst (λ x. IsRun axis entity g m x each.0.0) (sym same) each.0.1)
-    | inr other ↦ entry_of es each.1 p s (sym (ap (λ b. cond b (Some e.size) (find_at p es)) (untied p e.first other)) ∙ is)
-  ]
-
   pub runs_merged : (es : List Rectangle) → RunsOf axis entity g m es → MergesRuns axis entity g m (with_sizes m es)
-  runs_merged es listed = grind (arith, common_steps, set_or, get-with_sizes, none-some, entry_of, not_one)
+  runs_merged es listed = record { each = λ p. by p (find_at p es) refl }
+    where
+      by : (p : Position) (o : Option Size) → find_at p es ≡ o → ((many : ℕ) × IsRun axis entity g m p many × (get (with_sizes m es) p ≡ Some (size_of_run axis many))) ⊎ (((many : ℕ) → IsRun axis entity g m p many → ⊥) × (get (with_sizes m es) p ≡ get m p))
+      by p None is = inr (λ many run. none-some (size_of_run axis many) (sym is ∙ listed.all p many run), get-with_sizes es m p listed.sorted ∙ ap (λ (o : Option Size). set_or o (get m p)) is)
+      by p (Some s) is =
+          let run = found_in (IsOfRun axis entity g m) es listed.each p s is in
+          inl (run.0, run.1, get-with_sizes es m p listed.sorted ∙ ap (λ (o : Option Size). set_or o (get m p)) is ∙ ap (λ (x : Size). set_or (Some x) (get m p)) run.2 ∙ set_run axis run.0 run.1.some (get m p))

@@ -1,5 +1,5 @@
 -- How merged cells lie after spans.
-use Rattle.tabled_spans.proofs.Common.{◌+◌, ◌-◌, ◌<ℤ◌, ◌<◌, ◌≡◌, ◌≤◌, AllByRecursion, AreSpanSizes, Axis, Columns, DoesFirstWrites, Entity, Fits, Grid, IsFlat, LieWithin, List, Midway, None, Option, OptionKeeps, Position, Rows, Some, SpanMap, Spans, SpansFirst, are_visible, arith, back_of, cond_both, count_of, drop_hidden, fits_dropped, flat_column_span, flat_dropped, fold-keeps, grown, grown_at, grown_each, in_line, inside, inside-within, is_visible, line_of, map_grid, midway, midway_flat, midway_heightened, midway_narrow, midway_widened, min, narrow_dropped, narrow_row_span, pos, pulled, pulled_at, refl, size_at, sizes_heightened, sizes_widened, span_writes, spanned, suc, take, taken, true, with_span, within_high, within_wide, ℕ, ℤ}
+use Rattle.tabled_spans.proofs.Common.{◌+◌, ◌-◌, ◌<ℤ◌, ◌<◌, ◌≡◌, ◌≤◌, AllByRecursion, Axis, Columns, DoesFirstWrites, Entity, Fits, Grid, IsFlat, LieWithin, List, Midway, None, Option, OptionKeeps, Position, Rows, Some, SpanMap, Spans, SpansFirst, are_visible, arith, back_of, cond_both, count_of, drop_hidden, fits_dropped, flat_column_span, flat_dropped, fold-keeps, grown, grown_at, grown_each, in_line, inside, inside-within, is_visible, line_of, map_grid, midway, midway_flat, midway_heightened, midway_narrow, midway_widened, min, narrow_dropped, narrow_row_span, pos, pulled, pulled_at, refl, size_at, span_writes, spanned, suc, take, taken, true, with_span, within_high, within_wide, ℕ, ℤ}
 use Rattle.tabled_options.proofs.Keeps.{keeps_same_or}
 use Rattle.tabled_options.proofs.Shapes.{shape_texts}
 use Rattle.tabled_spans.proofs.FreeCells.{all_pass}
@@ -29,13 +29,12 @@ fits_grown axis size e m rows columns least fits = fits_dropped _ rows columns (
 
 -- merged cells of one row, or of one column, inside a table
 record AreFlat (axis : Axis) (m : SpanMap) (rows columns : ℕ) : Type 0 where
-  pub sizes : AreSpanSizes m
   pub flat : IsFlat axis m
   pub within : LieWithin (size_at m) rows columns
 
 flat_span : (axis : Axis) (m : SpanMap) (p : Position) (many rows columns : ℕ) → 1 ≤ many → p.row < rows → p.col < columns → line_of axis p + many ≤ count_of axis rows columns → AreFlat axis m rows columns → AreFlat axis (with_span axis m p many) rows columns
-flat_span Columns m p many rows columns some row col fits flat = record { sizes = sizes_widened m p many some flat.sizes; flat = flat_column_span m p many some flat.flat; within = within_wide m p many some rows columns row fits flat.within }
-flat_span Rows m p many rows columns some row col fits flat = record { sizes = sizes_heightened m p many some flat.sizes; flat = narrow_row_span m p many some flat.flat; within = within_high m p many some rows columns col fits flat.within }
+flat_span Columns m p many rows columns some row col fits flat = record { flat = flat_column_span m p many some flat.flat; within = within_wide m p many some rows columns row fits flat.within }
+flat_span Rows m p many rows columns some row col fits flat = record { flat = narrow_row_span m p many some flat.flat; within = within_high m p many some rows columns col fits flat.within }
 
 flat_grown : (axis : Axis) (size rows columns : ℕ) → 1 ≤ size → (m : SpanMap) (p : Position) → p.row < rows → p.col < columns → AreFlat axis m rows columns → AreFlat axis (grown_at axis size (count_of axis rows columns) m p) rows columns
 flat_grown axis size rows columns least m p row col flat =
@@ -69,15 +68,15 @@ flat_pulled axis back rows columns m p row col flat =
     flat_span axis m (in_line axis p cells.0) cells.1 rows columns t.some there.0 there.1 (rw (index_moved axis p cells.0) t.within) flat
 
 flat_dropped_along : (axis : Axis) (m : SpanMap) (rows columns : ℕ) → AreFlat axis m rows columns → Fits (drop_hidden m) rows columns × IsFlat axis (drop_hidden m)
-flat_dropped_along Columns m rows columns flat = (fits_dropped m rows columns (midway_flat m rows columns flat.sizes flat.flat flat.within), flat_dropped m flat.flat)
-flat_dropped_along Rows m rows columns flat = (fits_dropped m rows columns (midway_narrow m rows columns flat.sizes flat.flat flat.within), narrow_dropped m flat.flat)
+flat_dropped_along Columns m rows columns flat = (fits_dropped m rows columns (midway_flat m rows columns flat.flat flat.within), flat_dropped m flat.flat)
+flat_dropped_along Rows m rows columns flat = (fits_dropped m rows columns (midway_narrow m rows columns flat.flat flat.within), narrow_dropped m flat.flat)
 
 -- spans of any size along lines keep merged cells of one line so, inside and apart
 pub flat_spanned : (axis : Axis) (size : ℤ) (e : Entity) (m : SpanMap) (rows columns : ℕ) → Fits m rows columns → IsFlat axis m → Fits (spanned axis size e rows columns m) rows columns × IsFlat axis (spanned axis size e rows columns m)
 flat_spanned axis size e m rows columns fits flat = by_sign size
   where
     start : AreFlat axis m rows columns
-    start = record { sizes = fits.sizes; flat = flat; within = (midway m rows columns fits).within }
+    start = record { flat = flat; within = (midway m rows columns fits).within }
 
     all : (back : Option ℕ) → Fits (pulled axis back e rows columns m) rows columns × IsFlat axis (pulled axis back e rows columns m)
     all back = flat_dropped_along axis _ rows columns (fold-keeps (λ k. AreFlat axis k rows columns) (pulled_at axis back (count_of axis rows columns)) rows columns (flat_pulled axis back rows columns) (inside e rows columns) m (inside-within e rows columns) start)

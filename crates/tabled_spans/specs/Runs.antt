@@ -1,11 +1,10 @@
 -- Runs of equal neighbours in rows or in columns, and the map in which each is one rectangle.
 use Rattle.std.specs.Prelude.{◌≡◌, ◌+◌, ◌-◌, ◌<◌, ◌≤◌, ◌⊎◌, ◌&&◌, ℕ, Bool, List, Some, true}
-use Rattle.std.specs.FinMap as map
 use Rattle.tabled_grid.specs.Axis.{in_line, line_of, resized}
 use Rattle.tabled_grid.specs.Entity.{names}
 use Rattle.tabled_grid.specs.Grid.{Grid, IsInside, cell_at, map_grid}
 use Rattle.tabled_grid.specs.Hidden.{is_visible}
-use Rattle.tabled_grid.specs.Spans.{SpanMap, is_cell, size_at, sized}
+use Rattle.tabled_grid.specs.Spans.{SpanMap, empty, get, is_cell, size_at, sized}
 use Rattle.tabled_grid.specs.declared.config.entity.Entity.{Entity}
 use Rattle.tabled_grid.specs.declared.config.position.Position.{Position}
 use Rattle.tabled_grid.specs.declared.records.axis.Axis.{Axis}
@@ -50,19 +49,19 @@ pub record IsRun (axis : Axis) (e : Entity) (g : Grid (List ℕ)) (m : SpanMap) 
 
 -- without merged cells, neighbours with equal texts join
 abbrev pub JoinsIfEqual : Axis → Entity → Grid (List ℕ) → Position → Type 0
-JoinsIfEqual axis e g p = cell_at g p ≡ cell_at g (further axis 1 p) → Joins axis e g map.empty p
+JoinsIfEqual axis e g p = cell_at g p ≡ cell_at g (further axis 1 p) → Joins axis e g empty p
 
 -- a run among cells that were not merged is a rectangle of the map
 abbrev pub RunIsMerged : Axis → Entity → Grid (List ℕ) → SpanMap → Position → ℕ → Type 0
-RunIsMerged axis e g m p many = IsRun axis e g map.empty p many → map.get m p ≡ Some (size_of_run axis many)
+RunIsMerged axis e g m p many = IsRun axis e g empty p many → get m p ≡ Some (size_of_run axis many)
 
 -- a rectangle of the map is a run among cells that were not merged
 abbrev pub MergedIsRun : Axis → Entity → Grid (List ℕ) → SpanMap → Position → Size → Type 0
-MergedIsRun axis e g m p size = map.get m p ≡ Some size → (many : ℕ) × IsRun axis e g map.empty p many × (size ≡ size_of_run axis many)
+MergedIsRun axis e g m p size = get m p ≡ Some size → (many : ℕ) × IsRun axis e g empty p many × (size ≡ size_of_run axis many)
 
 -- the map with a rectangle for each run among the cells of an entity, anchored at its first cell, and with all others as they were
 pub record MergesRuns (axis : Axis) (e : Entity) (g : Grid (List ℕ)) (m n : SpanMap) : Type 0 where
-  pub each : (p : Position) → ((many : ℕ) × IsRun axis e g m p many × (map.get n p ≡ Some (size_of_run axis many))) ⊎ (((many : ℕ) → IsRun axis e g m p many → ⊥) × (map.get n p ≡ map.get m p))
+  pub each : (p : Position) → ((many : ℕ) × IsRun axis e g m p many × (get n p ≡ Some (size_of_run axis many))) ⊎ (((many : ℕ) → IsRun axis e g m p many → ⊥) × (get n p ≡ get m p))
 
 -- the runs among the cells of an entity are merged, and cells stay
 abbrev pub Merges : {A : Type 0} → (A → List ℕ) → Axis → Entity → Change A SpanMap

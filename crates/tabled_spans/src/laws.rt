@@ -1,9 +1,8 @@
 //! Laws of merged cells. Each is the contract of a function that does nothing.
 
-ghost use Rattle.std.specs.FinMap as map;
 ghost use Rattle.std.specs.Prelude.{List, pos, ℕ, ◌<ℤ◌, ◌≡◌, ◌≤◌};
 ghost use Rattle.tabled_grid.specs.Grid.{Grid};
-ghost use Rattle.tabled_grid.specs.Spans.{SpanMap};
+ghost use Rattle.tabled_grid.specs.Spans.{SpanMap, empty};
 ghost use Rattle.tabled_grid.specs.declared.config.entity.Entity.{Entity};
 ghost use Rattle.tabled_grid.specs.declared.config.entity.Entity.TheVariants.{Cell, Column, Row};
 ghost use Rattle.tabled_grid.specs.declared.config.position.Position.{Position};
@@ -124,7 +123,7 @@ pub fn merged_twice_is_merged_once()
 /// Without merged cells, a vertical merge of an entity makes exactly the longest runs of two or more equal texts
 /// among its cells in a column one merged cell each. Rows alike.
 pub fn exactly_the_runs_are_merged()
-    ensures merged { (axis : Axis) (e : Entity) (g : Grid (List ℕ)) (n : SpanMap) (p : Position) (many : ℕ) → MergesRuns axis e g map.empty n → RunIsMerged axis e g n p many }
-    ensures no_others { (axis : Axis) (e : Entity) (g : Grid (List ℕ)) (n : SpanMap) (p : Position) (size : Size) → MergesRuns axis e g map.empty n → MergedIsRun axis e g n p size }
+    ensures merged { (axis : Axis) (e : Entity) (g : Grid (List ℕ)) (n : SpanMap) (p : Position) (many : ℕ) → MergesRuns axis e g empty n → RunIsMerged axis e g n p many }
+    ensures no_others { (axis : Axis) (e : Entity) (g : Grid (List ℕ)) (n : SpanMap) (p : Position) (size : Size) → MergesRuns axis e g empty n → MergedIsRun axis e g n p size }
     ensures joined { (axis : Axis) (e : Entity) (g : Grid (List ℕ)) (p : Position) → IsNamed e g p → IsNamed e g (further axis 1 p) → JoinsIfEqual axis e g p }
 {}

@@ -7,8 +7,8 @@ pub use Rattle.std.proofs.lemmas.Result.{IfErr-weaker}
 pub use Rattle.std.specs.Option.{option_and_then, option_eq}
 pub use Rattle.std.specs.declared.ops.Bound.TheVariants.{Excluded, Included}
 pub use Rattle.std.specs.declared.ops.Range.{Range}
-pub use Rattle.tabled_carry.proofs.Common.{◌^◌, positions_exact, positions_total}
-pub use Rattle.tabled_grid.proofs.Common.{[], ◌&&◌, ◌*◌, ◌++◌, ◌+◌, ◌-◌, ◌/◌, ◌<◌, ◌∙◌, ◌∷◌, ◌≡◌, ◌≤◌, ◌⊎◌, All-from_recursion, AllByRecursion, Bool, Fits, Grid, IfSome, IsEven, IsInside, List, None, Option, Places, Result, Some, SpanMap, all-append, and_from, and_parts, ap, append-nil, append_assoc, ap₂, arith, block, cases_Bool, cases_lt, cell_at, cond, count_along, count_of, div-le_self, drop, drop_hidden, false, false≢true, flat_map, fold, get, get_or, inl, inr, inside, into_iter_items, is_hidden, is_visible, le-ltb, length, length-replicate, map, map-append, map_grid, max, min, nat_lt, ne_eqb, none-some, option_map, place, range_with_len, rectangle, refl, replicate, row_places, rules, same_Some, same_map, slice_get, slice_get-get_or, subst, suc, sym, take, true, unwrap_or, with_cell, with_sizes, zero, ℕ}
+pub use Rattle.tabled_carry.proofs.Common.{◌^◌, same_map}
+pub use Rattle.tabled_grid.proofs.Common.{[], ◌&&◌, ◌*◌, ◌++◌, ◌+◌, ◌-◌, ◌/◌, ◌<◌, ◌∙◌, ◌∷◌, ◌≡◌, ◌≤◌, ◌⊎◌, All-from_recursion, AllByRecursion, Bool, Fits, Grid, IfSome, IsEven, IsInside, List, None, Option, Places, Result, Some, SpanMap, all-append, and_from, and_parts, ap, append-nil, append_assoc, ap₂, arith, block, cases_Bool, cases_lt, cell_at, cond, count_along, count_of, div-le_self, drop, drop_hidden, false, false≢true, flat_map, fold, get, get_or, inl, inr, inside, into_iter_items, is_hidden, is_visible, le-ltb, length, length-replicate, map, map-append, map_grid, max, min, nat_lt, ne_eqb, none-some, option_map, place, range_with_len, rectangle, refl, replicate, row_places, rules, same_Some, slice_get, slice_get-get_or, subst, suc, sym, take, true, unwrap_or, with_cell, with_sizes, zero, ℕ}
 pub use Rattle.tabled_grid.specs.declared.config.rectangle.Rectangle.{Rectangle}
 pub use Rattle.tabled_grid.proofs.Places.{block-is}
 pub use Rattle.tabled_grid.specs.Bounds.{indexes}

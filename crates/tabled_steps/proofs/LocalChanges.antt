@@ -1,5 +1,5 @@
 -- What options do and leave on an entity depends on the places that it names.
-use Rattle.tabled_steps.proofs.Common.{[], ◌∙◌, ◌≡◌, ◌⊎◌, Axis, Bool, DoesFirstWrites, DoesWrites, Entity, FirstWrites, Grid, IsLocal, List, None, Option, Position, SpanMap, Spans, SpansFirst, Write, ap, at_each, back_of, cases_Bool, charset_writes, cond, count_of, drop_hidden, false, get, grown_each, hidden-from, hidden_by, inl, inr, inside, is_hidden, is_set, is_visible, map_grid, mapped_writes, pos, positions_exact, positions_total, pull_writes, pulled_each, recoded, refl, same_map, shape_texts, span_writes, spanned, subst, suc, sym, text_writes, true, with_writes, wrap_writes, wrapped, ℕ, ℤ}
+use Rattle.tabled_steps.proofs.Common.{[], ◌∙◌, ◌≡◌, ◌⊎◌, Axis, Bool, DoesFirstWrites, DoesWrites, Entity, FirstWrites, Grid, IsLocal, List, None, Option, Position, SpanMap, Spans, SpansFirst, Write, ap, at_each, back_of, cases_Bool, charset_writes, cond, count_of, drop_hidden, false, get, grown_each, hidden-from, hidden_by, inl, inr, inside, is_hidden, is_set, is_visible, map_grid, mapped_writes, pos, pull_writes, pulled_each, recoded, refl, same_map, shape_texts, span_writes, spanned, subst, suc, sym, text_writes, true, with_writes, wrap_writes, wrapped, ℕ, ℤ}
 use Rattle.tabled_grid.proofs.SpanMaps.{get-drop_hidden, kept}
 
 -- writes on an entity that depend on the places alone that it names, and are none where it names none
@@ -51,7 +51,7 @@ hidden_before m p hidden =
 
 -- hidden anchors that were dropped are dropped no more
 dropped_once : (m : SpanMap) → drop_hidden (drop_hidden m) ≡ drop_hidden m
-dropped_once m = same_map positions_total positions_exact (drop_hidden (drop_hidden m)) (drop_hidden m) (λ q. get-drop_hidden (drop_hidden m) q ∙ by q (cases_Bool (is_hidden (drop_hidden m) q)))
+dropped_once m = same_map (drop_hidden (drop_hidden m)) (drop_hidden m) (λ q. get-drop_hidden (drop_hidden m) q ∙ by q (cases_Bool (is_hidden (drop_hidden m) q)))
   where
     by : (q : Position) → (is_hidden (drop_hidden m) q ≡ true) ⊎ (is_hidden (drop_hidden m) q ≡ false) → cond (is_visible (drop_hidden m) q) (get (drop_hidden m) q) None ≡ get (drop_hidden m) q
     by q (inr shown) = rw shown refl

@@ -1,5 +1,5 @@
 -- The runs that are listed are those that are merged.
-use Rattle.tabled_steps.proofs.Common.{◌++◌, ◌+◌, ◌-◌, ◌<◌, ◌∙◌, ◌≡◌, ◌≤◌, ◌⊎◌, Axis, Bool, Columns, Entity, Grid, IsInside, IsNamed, IsRun, Joins, List, MergesRuns, None, Option, Position, Rectangle, Rows, RunAt, RunsFrom, RunsOf, Some, SpanMap, and_from, and_parts, ap, append_assoc, ap₂, arith, block-is, cond, false, false≢true, flat_map, flat_map-append, further, get, inl, inr, lt-ltb, ltb-true, map, none-some, option_eq, place, places, positions_exact, positions_total, range_with_len, rectangle, refl, same_Some, same_map, size_of_run, subst, suc, sym, true, with_sizes, zero, ℕ}
+use Rattle.tabled_steps.proofs.Common.{◌++◌, ◌+◌, ◌-◌, ◌<◌, ◌∙◌, ◌≡◌, ◌≤◌, ◌⊎◌, Axis, Bool, Columns, Entity, Grid, IsInside, IsNamed, IsRun, Joins, List, MergesRuns, None, Option, Position, Rectangle, Rows, RunAt, RunsFrom, RunsOf, Some, SpanMap, and_from, and_parts, ap, append_assoc, ap₂, arith, block-is, cond, false, false≢true, flat_map, flat_map-append, further, get, inl, inr, lt-ltb, ltb-true, map, none-some, option_eq, place, places, range_with_len, rectangle, refl, same_Some, same_map, size_of_run, subst, suc, sym, true, with_sizes, zero, ℕ}
 use Rattle.std.specs.Str.{bytes_eq}
 use Rattle.tabled_grid.specs.Midway.{In}
 use Rattle.tabled_grid.specs.Spans.{sized}
@@ -24,7 +24,7 @@ if_alike (Some x) (Some y) t = ap Some ((bytes_eq-Decides x y).0 t)
 module _ (axis : Axis) (entity : Entity) (g : Grid (List ℕ)) (m : SpanMap) where
   -- one map alone has the runs merged
   pub merged_alike : (n k : SpanMap) → MergesRuns axis entity g m n → MergesRuns axis entity g m k → n ≡ k
-  merged_alike n k first second = same_map positions_total positions_exact n k (λ p. by p (first.each p) (second.each p))
+  merged_alike n k first second = same_map n k (λ p. by p (first.each p) (second.each p))
     where
       by : (p : Position) → ((a : ℕ) × IsRun axis entity g m p a × (get n p ≡ Some (size_of_run axis a))) ⊎ (((a : ℕ) → IsRun axis entity g m p a → ⊥) × (get n p ≡ get m p)) → ((b : ℕ) × IsRun axis entity g m p b × (get k p ≡ Some (size_of_run axis b))) ⊎ (((b : ℕ) → IsRun axis entity g m p b → ⊥) × (get k p ≡ get m p)) → get n p ≡ get k p
       by p (inl (a, run, has)) (inl (b, other, has_other)) = has ∙ ap (λ many. Some (size_of_run axis many)) (same_run axis entity g m p a b run other) ∙ sym has_other

@@ -30,13 +30,13 @@ impl Model for Table {
 
 impl Table {
     ghost use Rattle.std.specs.Prelude.{◌≡◌, OnOk, OnErr, IsOk};
-    ghost use Rattle.std.specs.FinMap as map;
+    ghost use Rattle.tabled_grid.specs.Spans as spans;
     ghost use Rattle.tabled_options.specs.Does.{CopiesAlike, EachListed, EachListedLeaves};
 
     /// A table of the cells of a store, with no merged cells.
     pub fn from_records(alloc: Global, records: VecRecords<Text<String>>) -> Self
         ensures cells { result.cells ≡ records.grid }
-        ensures spans { result.spans ≡ map.empty }
+        ensures spans { result.spans ≡ spans.empty }
     {
         Table {
             records,

@@ -89,7 +89,9 @@ where
     O: Object<R> + Drop,
     M: CellOption<R, SpannedConfig> + Clone,
     requires { (e : Entity) → OptionKeeps ⟦<MergedCellsFit as Property<R::Cell, SpannedConfig>>⟧.holds (M.does _option.now e) (M.leaves _option.now e) }
-    ensures { OptionKeeps ⟦<MergedCellsFit as Property<R::Cell, SpannedConfig>>⟧.holds (⟦<ModifyList<O, M> as TableOption<R, SpannedConfig, D>>⟧.does (_object.now, _option.now)) (⟦<ModifyList<O, M> as TableOption<R, SpannedConfig, D>>⟧.leaves (_object.now, _option.now)) }
+    ensures { OptionKeeps ⟦<MergedCellsFit as Property<R::Cell, SpannedConfig>>⟧.holds
+        (⟦<ModifyList<O, M> as TableOption<R, SpannedConfig, D>>⟧.does (_object.now, _option.now))
+        (⟦<ModifyList<O, M> as TableOption<R, SpannedConfig, D>>⟧.leaves (_object.now, _option.now)) }
 {
     modified_keep::<MergedCellsFit, R, SpannedConfig, D, O, M>(_object, _option);
 }

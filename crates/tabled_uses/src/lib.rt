@@ -3,7 +3,6 @@
 
 pub mod carried;
 pub mod csv;
-pub mod flat;
 pub mod geometry;
 pub mod language;
 pub mod merged;

@@ -80,7 +80,8 @@ where
     R: Records + ExactRecords + PeekableRecords,
     R::Cell: CellText,
     requires well { R.is_well_formed records.now }
-    ensures written { OnOk result (Appends (W.contents writer.old) (W.contents writer.new) (markdown [] (map_grid R.Cell.text_of (R.grid records.now)) cfg.now)) }
+    ensures written { OnOk result (
+        Appends (W.contents writer.old) (W.contents writer.new) (markdown [] (map_grid R.Cell.text_of (R.grid records.now)) cfg.now)) }
 {
     draw_markdown(alloc, writer, records, cfg, &[])
 }

@@ -84,7 +84,8 @@ where
 /// that share a cell, one begins in the other.
 pub fn one_span_more(_size: usize)
     requires { 1 ≤ _size }
-    ensures { (p : Position) (m : SpanMap) (rows columns : ℕ) → p.row < rows → p.col < columns → Midway m rows columns → Midway (grown_each axis.Columns _size columns m (p ∷ [])) rows columns }
+    ensures { (p : Position) (m : SpanMap) (rows columns : ℕ) → p.row < rows → p.col < columns →
+        Midway m rows columns → Midway (grown_each axis.Columns _size columns m (p ∷ [])) rows columns }
 {
     spans_fit_midway(Axis::Columns, _size);
 }

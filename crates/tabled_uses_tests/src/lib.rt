@@ -6,7 +6,6 @@ mod covers;
 #[cfg(test)]
 mod fitting;
 #[cfg(test)]
-mod flat;
 #[cfg(test)]
 mod places;
 #[cfg(test)]

@@ -224,7 +224,7 @@ where
     Ok(Outcome { made, same })
 }
 
-/// The same of a change of one row, column or cell through the store's `&mut`.
+/// Attempts a change of one row, column or cell through the store's `&mut`.
 fn lent_attempt<R>(alloc: Global, mut records: R, change: Change) -> Result<Outcome, AllocError>
 where
     R: Resizable + Records + ExactRecords + PeekableRecords + RecordsMut<String> + Drop,

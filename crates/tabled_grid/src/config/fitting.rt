@@ -4,7 +4,7 @@ ghost use Rattle.std.specs.Prelude.{◌≡◌, ◌∷◌, ◌↔◌, IfOk, IsOk,
 ghost use Rattle.std.specs.List.{list_all};
 ghost use Rattle.tabled_grid.specs.Anchors.{meets};
 ghost use Rattle.tabled_grid.specs.Fitting.{Fits, fitting, keep_fitting, with_met};
-ghost use Rattle.tabled_grid.specs.Spans.{AreSorted, AreSpanSizes};
+ghost use Rattle.tabled_grid.specs.Spans.{AreSorted};
 ghost use Rattle.tabled_grid.specs.declared.config.rectangle.Rectangle.{Rectangle};
 
 use crate::config::anchors::{self, is_past, rest_of_row};
@@ -16,7 +16,6 @@ impl SpannedConfig {
     /// Says whether all rectangles lie inside a table (`rows x columns`) and no two share a cell.
     pub fn fits(&self, rows: usize, columns: usize) -> bool
         ensures fits { IsTrue result ↔ Fits self.now rows columns }
-        ensures sizes { AreSpanSizes self.now }
     {
         anchors::fit(self.anchors(), rows, columns)
     }
@@ -32,7 +31,6 @@ impl SpannedConfig {
         columns: usize,
     ) -> Result<SpannedConfig, AllocError>
         ensures fitting { IfOk result (λ fitting. fitting ≡ keep_fitting rows columns self.now) }
-        ensures sizes { AreSpanSizes self.now }
     {
         let kept = fitting(alloc, self.anchors(), rows, columns)?;
         Ok(SpannedConfig::from_anchors(kept))
@@ -50,7 +48,6 @@ impl SpannedConfig {
     ) -> Result<(), AllocError>
         ensures ok { OnOk result (self.new ≡ keep_fitting rows columns self.old) }
         ensures err { OnErr result (self.new ≡ self.old) }
-        ensures sizes { AreSpanSizes self.new }
         ensures promised { Fits self.old rows columns → IsOk result }
     {
         if !self.fits(rows, columns) {

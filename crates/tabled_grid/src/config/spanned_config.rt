@@ -1,13 +1,12 @@
 //! Which cells are merged.
 
 ghost use Rattle.std.specs.Prelude.{◌≡◌, ◌<◌, ◌≤◌, ◌↔◌, ◌⊎◌, IfOk, IsOk, IsSome, IsTrue, OnErr, OnOk, SomeIff};
-ghost use Rattle.std.specs.FinMap as map;
 ghost use Rattle.std.specs.List.{AllByRecursion};
 ghost use Rattle.tabled_grid.specs.Axis.{with_span};
 ghost use Rattle.tabled_grid.specs.Rectangles.{column_spans, is_covered_across, is_covered_down, row_spans};
 ghost use Rattle.tabled_grid.specs.Hidden.{drop_hidden, is_visible};
 ghost use Rattle.tabled_grid.specs.Shifts.{is_crossed, shifted};
-ghost use Rattle.tabled_grid.specs.Spans.{AreAnchors, AreSorted, AreSpanSizes, IsSizeAt, IsSpanSize, map_of, rectangles, size_at, sized, with_column_span, with_row_span, with_size, with_sizes};
+ghost use Rattle.tabled_grid.specs.Spans.{AreAnchors, AreSorted, IsSizeAt, IsSpanSize, empty, get, insert, map_of, rectangles, remove, size_at, sized, with_column_span, with_row_span, with_size, with_sizes};
 
 use crate::config::position::Position;
 use crate::config::rectangle::Rectangle;
@@ -19,8 +18,8 @@ use std::marker::Model;
 
 /// Which cells are merged: rectangles of cells, each of which goes right and down from its anchor.
 ///
-/// A contract sees it as a finite map from anchors to sizes, of a height and a width of at least 1 and
-/// not both 1 (`sizes`). Rectangles need not lie inside a table, and may share cells.
+/// A contract sees it as a finite map from anchors to sizes, with the proof that each has a height and a width of
+/// at least 1 and not both 1. Rectangles need not lie inside a table, and may share cells.
 ///
 /// Ported from the spans of `tabled::grid::config::SpannedConfig`.
 #[derive(Drop)]
@@ -44,14 +43,11 @@ impl Model for SpannedConfig {
 impl SpannedConfig {
     /// No merged cells.
     pub fn new(alloc: Global) -> Self
-        ensures empty { result ≡ map.empty }
-        ensures sizes { AreSpanSizes result }
+        ensures empty { result ≡ empty }
     {
-        let config = SpannedConfig {
+        SpannedConfig {
             anchors: Vec::new(alloc),
-        };
-        config.keeps_sizes();
-        config
+        }
     }
 
     /// The rectangles of a list, of more than one cell each, which stand row by row, one at each anchor.
@@ -61,11 +57,8 @@ impl SpannedConfig {
     pub fn from_anchors(anchors: Vec<Rectangle>) -> Self
         requires { AreAnchors anchors.items }
         ensures anchors { result ≡ map_of anchors.items }
-        ensures sizes { AreSpanSizes result }
     {
-        let config = SpannedConfig { anchors };
-        config.keeps_sizes();
-        config
+        SpannedConfig { anchors }
     }
 
     /// The size of the rectangle that is anchored at a place, that of one cell where there is none.
@@ -73,11 +66,9 @@ impl SpannedConfig {
     /// Of this project: the original has a call for the height and one for the width.
     pub fn size(&self, pos: Position) -> Size
         ensures value { result ≡ size_at self.now pos }
-        ensures sizes { AreSpanSizes self.now }
         ensures height { 1 ≤ result.height }
         ensures width { 1 ≤ result.width }
     {
-        self.keeps_sizes();
         match anchors::search(&self.anchors, pos) {
             Ok(i) => self.anchors[i].size,
             Err(_) => Size::CELL,
@@ -89,7 +80,6 @@ impl SpannedConfig {
     /// Ported from `tabled::grid::config::SpannedConfig::get_column_span`.
     pub fn get_column_span(&self, pos: Position) -> Option<usize>
         ensures span { SomeIff result (1 < (size_at self.now pos).width) (size_at self.now pos).width }
-        ensures sizes { AreSpanSizes self.now }
     {
         let width = self.size(pos).width;
         (width > 1).then_some(width)
@@ -100,7 +90,6 @@ impl SpannedConfig {
     /// Ported from `tabled::grid::config::SpannedConfig::get_row_span`.
     pub fn get_row_span(&self, pos: Position) -> Option<usize>
         ensures span { SomeIff result (1 < (size_at self.now pos).height) (size_at self.now pos).height }
-        ensures sizes { AreSpanSizes self.now }
     {
         let height = self.size(pos).height;
         (height > 1).then_some(height)
@@ -121,11 +110,9 @@ impl SpannedConfig {
     ) -> Result<(), AllocError>
         ensures ok { OnOk result (self.new ≡ with_span axis self.old pos many) }
         ensures err { OnErr result (self.new ≡ self.old) }
-        ensures sizes { AreSpanSizes self.new }
-        ensures promised { (many ≤ 1) ⊎ IsSome (map.get self.old pos) → IsOk result }
+        ensures promised { (many ≤ 1) ⊎ IsSome (get self.old pos) → IsOk result }
     {
         if many == 0 {
-            self.keeps_sizes();
             return Ok(());
         }
         let size = axis.resized(self.size(pos), many);
@@ -143,8 +130,7 @@ impl SpannedConfig {
     ) -> Result<(), AllocError>
         ensures ok { OnOk result (self.new ≡ with_column_span self.old pos width) }
         ensures err { OnErr result (self.new ≡ self.old) }
-        ensures sizes { AreSpanSizes self.new }
-        ensures promised { (width ≤ 1) ⊎ IsSome (map.get self.old pos) → IsOk result }
+        ensures promised { (width ≤ 1) ⊎ IsSome (get self.old pos) → IsOk result }
     {
         self.set_span(alloc, Axis::Columns, pos, width)
     }
@@ -160,8 +146,7 @@ impl SpannedConfig {
     ) -> Result<(), AllocError>
         ensures ok { OnOk result (self.new ≡ with_row_span self.old pos height) }
         ensures err { OnErr result (self.new ≡ self.old) }
-        ensures sizes { AreSpanSizes self.new }
-        ensures promised { (height ≤ 1) ⊎ IsSome (map.get self.old pos) → IsOk result }
+        ensures promised { (height ≤ 1) ⊎ IsSome (get self.old pos) → IsOk result }
     {
         self.set_span(alloc, Axis::Rows, pos, height)
     }
@@ -178,18 +163,13 @@ impl SpannedConfig {
         requires each { AllByRecursion IsSizeAt sizes.now }
         ensures ok { OnOk result (self.new ≡ with_sizes self.old sizes.now) }
         ensures err { OnErr result (self.new ≡ self.old) }
-        ensures sizes { AreSpanSizes self.new }
     {
         match anchors::merge(alloc, &self.anchors, sizes) {
             Ok(merged) => {
                 self.anchors = merged;
-                self.keeps_sizes();
                 Ok(())
             }
-            Err(error) => {
-                self.keeps_sizes();
-                Err(error)
-            }
+            Err(error) => Err(error),
         }
     }
 
@@ -198,9 +178,7 @@ impl SpannedConfig {
     /// Of this project.
     pub fn anchors(&self) -> &[Rectangle]
         ensures anchors { result.now ≡ rectangles self.now }
-        ensures sizes { AreSpanSizes self.now }
     {
-        self.keeps_sizes();
         &self.anchors
     }
 
@@ -210,9 +188,7 @@ impl SpannedConfig {
     #[doc(hidden)]
     pub fn into_anchors(self) -> Vec<Rectangle>
         ensures anchors { result.items ≡ rectangles self }
-        ensures sizes { AreSpanSizes self }
     {
-        self.keeps_sizes();
         let SpannedConfig { anchors } = self;
         anchors
     }
@@ -222,9 +198,7 @@ impl SpannedConfig {
     /// Ported from `tabled::grid::config::SpannedConfig::get_column_spans`.
     pub fn get_column_spans(&self, alloc: Global) -> Result<Vec<(Position, usize)>, AllocError>
         ensures spans { IfOk result (λ spans. spans.items ≡ column_spans self.now) }
-        ensures sizes { AreSpanSizes self.now }
     {
-        self.keeps_sizes();
         anchors::widths(alloc, &self.anchors)
     }
 
@@ -233,9 +207,7 @@ impl SpannedConfig {
     /// Ported from `tabled::grid::config::SpannedConfig::get_row_spans`.
     pub fn get_row_spans(&self, alloc: Global) -> Result<Vec<(Position, usize)>, AllocError>
         ensures spans { IfOk result (λ spans. spans.items ≡ row_spans self.now) }
-        ensures sizes { AreSpanSizes self.now }
     {
-        self.keeps_sizes();
         anchors::heights(alloc, &self.anchors)
     }
 
@@ -244,9 +216,7 @@ impl SpannedConfig {
     /// Ported from `tabled::grid::config::SpannedConfig::is_cell_visible`.
     pub fn is_cell_visible(&self, pos: Position) -> bool
         ensures visible { result ≡ is_visible self.now pos }
-        ensures sizes { AreSpanSizes self.now }
     {
-        self.keeps_sizes();
         !anchors::is_hidden(&self.anchors, pos)
     }
 
@@ -255,9 +225,7 @@ impl SpannedConfig {
     /// Ported from `tabled::grid::config::SpannedConfig::is_cell_covered_by_column_span`.
     pub fn is_cell_covered_by_column_span(&self, pos: Position) -> bool
         ensures covered { result ≡ is_covered_across self.now pos }
-        ensures sizes { AreSpanSizes self.now }
     {
-        self.keeps_sizes();
         anchors::is_covered_across(&self.anchors, pos)
     }
 
@@ -266,19 +234,15 @@ impl SpannedConfig {
     /// Ported from `tabled::grid::config::SpannedConfig::is_cell_covered_by_row_span`.
     pub fn is_cell_covered_by_row_span(&self, pos: Position) -> bool
         ensures covered { result ≡ is_covered_down self.now pos }
-        ensures sizes { AreSpanSizes self.now }
     {
-        self.keeps_sizes();
         anchors::is_covered_down(&self.anchors, pos)
     }
 
     /// Removes, at once, all anchors that another anchor's rectangle holds. It takes no memory.
     pub fn drop_hidden(&mut self)
         ensures dropped { self.new ≡ drop_hidden self.old }
-        ensures sizes { AreSpanSizes self.new }
     {
         anchors::drop_hidden(&mut self.anchors);
-        self.keeps_sizes();
     }
 
     /// Moves all anchors whose row (or column) is at least `from` one row (or column) further, at once.
@@ -288,10 +252,8 @@ impl SpannedConfig {
     #[doc(hidden)]
     pub fn shift(&mut self, axis: Axis, from: usize)
         ensures shifted { self.new ≡ shifted axis from self.old }
-        ensures sizes { AreSpanSizes self.new }
     {
         shifts::shift(&mut self.anchors, axis, from);
-        self.keeps_sizes();
     }
 
     /// Says whether a rectangle begins before a row (or column) and holds a cell of it, inside a table or
@@ -301,18 +263,14 @@ impl SpannedConfig {
     #[doc(hidden)]
     pub fn crosses(&self, axis: Axis, line: usize) -> bool
         ensures crosses { result ≡ is_crossed axis line self.now }
-        ensures sizes { AreSpanSizes self.now }
     {
-        self.keeps_sizes();
         shifts::cross(&self.anchors, axis, line)
     }
 
     /// A copy.
     pub fn copy(&self, _alloc: Global) -> Result<SpannedConfig, AllocError>
         ensures copy { IfOk result (λ copy. copy ≡ self.now) }
-        ensures sizes { AreSpanSizes self.now }
     {
-        self.keeps_sizes();
         Ok(SpannedConfig {
             anchors: self.anchors.clone()?,
         })
@@ -324,25 +282,22 @@ impl SpannedConfig {
         requires width { 1 ≤ size.width }
         ensures ok { OnOk result (self.new ≡ with_size self.old pos size) }
         ensures err { OnErr result (self.new ≡ self.old) }
-        ensures sizes { AreSpanSizes self.new }
-        ensures promised { (size ≡ sized 1 1) ⊎ IsSome (map.get self.old pos) → IsOk result }
+        ensures promised { (size ≡ sized 1 1) ⊎ IsSome (get self.old pos) → IsOk result }
     {
-        let set = if size.is_cell() {
+        if size.is_cell() {
             self.remove(pos);
             Ok(())
         } else {
             self.insert(pos, size)
-        };
-        self.keeps_sizes();
-        set
+        }
     }
 
     /// Puts an anchor of a size at a place. Memory is taken only for a new one. Refused, it changes nothing.
     fn insert(&mut self, pos: Position, size: Size) -> Result<(), AllocError>
         requires { IsSpanSize size }
-        ensures ok { OnOk result (self.new ≡ map.insert self.old pos size) }
+        ensures ok { OnOk result (self.new ≡ insert self.old pos size) }
         ensures err { OnErr result (self.new ≡ self.old) }
-        ensures promised { IsSome (map.get self.old pos) → IsOk result }
+        ensures promised { IsSome (get self.old pos) → IsOk result }
     {
         match anchors::search(&self.anchors, pos) {
             Ok(i) => {
@@ -358,7 +313,7 @@ impl SpannedConfig {
 
     /// Removes the anchor at a place, if there is one.
     fn remove(&mut self, pos: Position)
-        ensures { self.new ≡ map.remove self.old pos }
+        ensures { self.new ≡ remove self.old pos }
     {
         match anchors::search(&self.anchors, pos) {
             Ok(i) => {
@@ -366,12 +321,5 @@ impl SpannedConfig {
             }
             Err(_) => {}
         }
-    }
-
-    /// Shows that each anchor merges cells, and does nothing.
-    fn keeps_sizes(&self)
-        ensures { AreSpanSizes self.now }
-    {
-        let _ = &self.anchors;
     }
 }

@@ -1,6 +1,7 @@
 //! Tuples of eight options.
 
 ghost use Rattle.tabled_options.specs.Copies.{act_like_in_order};
+ghost use Rattle.tabled_options.specs.Tuples.{settings_of_eight as settings};
 
 use crate::cell_option::CellOption;
 use crate::hints::combine_hints;
@@ -23,17 +24,17 @@ where
     T6: TableOption<R, C, D> + Drop,
     T7: TableOption<R, C, D> + Drop,
 {
-    ghost does = { λ s. ⟦<Settings<(T0, T1, T2, T3, T4, T5, T6), T7> as TableOption<R, C, D>>⟧.does ((s.0, s.1, s.2, s.3, s.4, s.5, s.6), s.7) };
+    ghost does = { λ s. ⟦<Settings<(T0, T1, T2, T3, T4, T5, T6), T7> as TableOption<R, C, D>>⟧.does (settings s) };
 
-    ghost leaves = { λ s. ⟦<Settings<(T0, T1, T2, T3, T4, T5, T6), T7> as TableOption<R, C, D>>⟧.leaves ((s.0, s.1, s.2, s.3, s.4, s.5, s.6), s.7) };
+    ghost leaves = { λ s. ⟦<Settings<(T0, T1, T2, T3, T4, T5, T6), T7> as TableOption<R, C, D>>⟧.leaves (settings s) };
 
-    ghost can_change = { λ s. ⟦<Settings<(T0, T1, T2, T3, T4, T5, T6), T7> as TableOption<R, C, D>>⟧.can_change ((s.0, s.1, s.2, s.3, s.4, s.5, s.6), s.7) };
+    ghost can_change = { λ s. ⟦<Settings<(T0, T1, T2, T3, T4, T5, T6), T7> as TableOption<R, C, D>>⟧.can_change (settings s) };
 
-    ghost never_refused = { λ s. ⟦<Settings<(T0, T1, T2, T3, T4, T5, T6), T7> as TableOption<R, C, D>>⟧.never_refused ((s.0, s.1, s.2, s.3, s.4, s.5, s.6), s.7) };
+    ghost never_refused = { λ s. ⟦<Settings<(T0, T1, T2, T3, T4, T5, T6), T7> as TableOption<R, C, D>>⟧.never_refused (settings s) };
 
-    ghost is_like = { λ p q. ⟦<Settings<(T0, T1, T2, T3, T4, T5, T6), T7> as TableOption<R, C, D>>⟧.is_like ((p.0, p.1, p.2, p.3, p.4, p.5, p.6), p.7) ((q.0, q.1, q.2, q.3, q.4, q.5, q.6), q.7) };
+    ghost is_like = { λ p q. ⟦<Settings<(T0, T1, T2, T3, T4, T5, T6), T7> as TableOption<R, C, D>>⟧.is_like (settings p) (settings q) };
 
-    ghost hint = { λ s. ⟦<Settings<(T0, T1, T2, T3, T4, T5, T6), T7> as TableOption<R, C, D>>⟧.hint ((s.0, s.1, s.2, s.3, s.4, s.5, s.6), s.7) };
+    ghost hint = { λ s. ⟦<Settings<(T0, T1, T2, T3, T4, T5, T6), T7> as TableOption<R, C, D>>⟧.hint (settings s) };
 
     fn change(
         self,
@@ -57,7 +58,14 @@ where
         combine_hints(hint, self.7.hint_change())
     }
 
-    ghost acts_like = { λ p q e. act_like_in_order (act_like_in_order (act_like_in_order (act_like_in_order (act_like_in_order (act_like_in_order (act_like_in_order (T0.acts_like p.0 q.0 e.0.0.0.0.0.0.0) (T1.acts_like p.1 q.1 e.0.0.0.0.0.0.1)) (T2.acts_like p.2 q.2 e.0.0.0.0.0.1)) (T3.acts_like p.3 q.3 e.0.0.0.0.1)) (T4.acts_like p.4 q.4 e.0.0.0.1)) (T5.acts_like p.5 q.5 e.0.0.1)) (T6.acts_like p.6 q.6 e.0.1)) (T7.acts_like p.7 q.7 e.1) };
+    ghost acts_like = { λ p q e.
+        let two = act_like_in_order (T0.acts_like p.0 q.0 e.0.0.0.0.0.0.0) (T1.acts_like p.1 q.1 e.0.0.0.0.0.0.1) in
+        let three = act_like_in_order two (T2.acts_like p.2 q.2 e.0.0.0.0.0.1) in
+        let four = act_like_in_order three (T3.acts_like p.3 q.3 e.0.0.0.0.1) in
+        let five = act_like_in_order four (T4.acts_like p.4 q.4 e.0.0.0.1) in
+        let six = act_like_in_order five (T5.acts_like p.5 q.5 e.0.0.1) in
+        let seven = act_like_in_order six (T6.acts_like p.6 q.6 e.0.1) in
+        act_like_in_order seven (T7.acts_like p.7 q.7 e.1) };
 }
 
 impl<R, C, T0, T1, T2, T3, T4, T5, T6, T7> CellOption<R, C> for (T0, T1, T2, T3, T4, T5, T6, T7)
@@ -72,17 +80,17 @@ where
     T6: CellOption<R, C> + Drop,
     T7: CellOption<R, C> + Drop,
 {
-    ghost does = { λ s. ⟦<Settings<(T0, T1, T2, T3, T4, T5, T6), T7> as CellOption<R, C>>⟧.does ((s.0, s.1, s.2, s.3, s.4, s.5, s.6), s.7) };
+    ghost does = { λ s. ⟦<Settings<(T0, T1, T2, T3, T4, T5, T6), T7> as CellOption<R, C>>⟧.does (settings s) };
 
-    ghost leaves = { λ s. ⟦<Settings<(T0, T1, T2, T3, T4, T5, T6), T7> as CellOption<R, C>>⟧.leaves ((s.0, s.1, s.2, s.3, s.4, s.5, s.6), s.7) };
+    ghost leaves = { λ s. ⟦<Settings<(T0, T1, T2, T3, T4, T5, T6), T7> as CellOption<R, C>>⟧.leaves (settings s) };
 
-    ghost can_change = { λ s. ⟦<Settings<(T0, T1, T2, T3, T4, T5, T6), T7> as CellOption<R, C>>⟧.can_change ((s.0, s.1, s.2, s.3, s.4, s.5, s.6), s.7) };
+    ghost can_change = { λ s. ⟦<Settings<(T0, T1, T2, T3, T4, T5, T6), T7> as CellOption<R, C>>⟧.can_change (settings s) };
 
-    ghost never_refused = { λ s. ⟦<Settings<(T0, T1, T2, T3, T4, T5, T6), T7> as CellOption<R, C>>⟧.never_refused ((s.0, s.1, s.2, s.3, s.4, s.5, s.6), s.7) };
+    ghost never_refused = { λ s. ⟦<Settings<(T0, T1, T2, T3, T4, T5, T6), T7> as CellOption<R, C>>⟧.never_refused (settings s) };
 
-    ghost is_like = { λ p q. ⟦<Settings<(T0, T1, T2, T3, T4, T5, T6), T7> as CellOption<R, C>>⟧.is_like ((p.0, p.1, p.2, p.3, p.4, p.5, p.6), p.7) ((q.0, q.1, q.2, q.3, q.4, q.5, q.6), q.7) };
+    ghost is_like = { λ p q. ⟦<Settings<(T0, T1, T2, T3, T4, T5, T6), T7> as CellOption<R, C>>⟧.is_like (settings p) (settings q) };
 
-    ghost hint = { λ s. ⟦<Settings<(T0, T1, T2, T3, T4, T5, T6), T7> as CellOption<R, C>>⟧.hint ((s.0, s.1, s.2, s.3, s.4, s.5, s.6), s.7) };
+    ghost hint = { λ s. ⟦<Settings<(T0, T1, T2, T3, T4, T5, T6), T7> as CellOption<R, C>>⟧.hint (settings s) };
 
     fn change(
         self,
@@ -106,5 +114,12 @@ where
         combine_hints(hint, self.7.hint_change())
     }
 
-    ghost acts_like = { λ p q e. act_like_in_order (act_like_in_order (act_like_in_order (act_like_in_order (act_like_in_order (act_like_in_order (act_like_in_order (T0.acts_like p.0 q.0 e.0.0.0.0.0.0.0) (T1.acts_like p.1 q.1 e.0.0.0.0.0.0.1)) (T2.acts_like p.2 q.2 e.0.0.0.0.0.1)) (T3.acts_like p.3 q.3 e.0.0.0.0.1)) (T4.acts_like p.4 q.4 e.0.0.0.1)) (T5.acts_like p.5 q.5 e.0.0.1)) (T6.acts_like p.6 q.6 e.0.1)) (T7.acts_like p.7 q.7 e.1) };
+    ghost acts_like = { λ p q e.
+        let two = act_like_in_order (T0.acts_like p.0 q.0 e.0.0.0.0.0.0.0) (T1.acts_like p.1 q.1 e.0.0.0.0.0.0.1) in
+        let three = act_like_in_order two (T2.acts_like p.2 q.2 e.0.0.0.0.0.1) in
+        let four = act_like_in_order three (T3.acts_like p.3 q.3 e.0.0.0.0.1) in
+        let five = act_like_in_order four (T4.acts_like p.4 q.4 e.0.0.0.1) in
+        let six = act_like_in_order five (T5.acts_like p.5 q.5 e.0.0.1) in
+        let seven = act_like_in_order six (T6.acts_like p.6 q.6 e.0.1) in
+        act_like_in_order seven (T7.acts_like p.7 q.7 e.1) };
 }

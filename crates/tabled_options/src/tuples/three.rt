@@ -1,6 +1,7 @@
 //! Tuples of three options.
 
 ghost use Rattle.tabled_options.specs.Copies.{act_like_in_order};
+ghost use Rattle.tabled_options.specs.Tuples.{settings_of_three as settings};
 
 use crate::cell_option::CellOption;
 use crate::hints::combine_hints;
@@ -17,17 +18,17 @@ where
     T1: TableOption<R, C, D> + Drop,
     T2: TableOption<R, C, D> + Drop,
 {
-    ghost does = { λ s. ⟦<Settings<(T0, T1), T2> as TableOption<R, C, D>>⟧.does ((s.0, s.1), s.2) };
+    ghost does = { λ s. ⟦<Settings<(T0, T1), T2> as TableOption<R, C, D>>⟧.does (settings s) };
 
-    ghost leaves = { λ s. ⟦<Settings<(T0, T1), T2> as TableOption<R, C, D>>⟧.leaves ((s.0, s.1), s.2) };
+    ghost leaves = { λ s. ⟦<Settings<(T0, T1), T2> as TableOption<R, C, D>>⟧.leaves (settings s) };
 
-    ghost can_change = { λ s. ⟦<Settings<(T0, T1), T2> as TableOption<R, C, D>>⟧.can_change ((s.0, s.1), s.2) };
+    ghost can_change = { λ s. ⟦<Settings<(T0, T1), T2> as TableOption<R, C, D>>⟧.can_change (settings s) };
 
-    ghost never_refused = { λ s. ⟦<Settings<(T0, T1), T2> as TableOption<R, C, D>>⟧.never_refused ((s.0, s.1), s.2) };
+    ghost never_refused = { λ s. ⟦<Settings<(T0, T1), T2> as TableOption<R, C, D>>⟧.never_refused (settings s) };
 
-    ghost is_like = { λ p q. ⟦<Settings<(T0, T1), T2> as TableOption<R, C, D>>⟧.is_like ((p.0, p.1), p.2) ((q.0, q.1), q.2) };
+    ghost is_like = { λ p q. ⟦<Settings<(T0, T1), T2> as TableOption<R, C, D>>⟧.is_like (settings p) (settings q) };
 
-    ghost hint = { λ s. ⟦<Settings<(T0, T1), T2> as TableOption<R, C, D>>⟧.hint ((s.0, s.1), s.2) };
+    ghost hint = { λ s. ⟦<Settings<(T0, T1), T2> as TableOption<R, C, D>>⟧.hint (settings s) };
 
     fn change(
         self,
@@ -46,7 +47,9 @@ where
         combine_hints(hint, self.2.hint_change())
     }
 
-    ghost acts_like = { λ p q e. act_like_in_order (act_like_in_order (T0.acts_like p.0 q.0 e.0.0) (T1.acts_like p.1 q.1 e.0.1)) (T2.acts_like p.2 q.2 e.1) };
+    ghost acts_like = { λ p q e.
+        let two = act_like_in_order (T0.acts_like p.0 q.0 e.0.0) (T1.acts_like p.1 q.1 e.0.1) in
+        act_like_in_order two (T2.acts_like p.2 q.2 e.1) };
 }
 
 impl<R, C, T0, T1, T2> CellOption<R, C> for (T0, T1, T2)
@@ -56,17 +59,17 @@ where
     T1: CellOption<R, C> + Drop,
     T2: CellOption<R, C> + Drop,
 {
-    ghost does = { λ s. ⟦<Settings<(T0, T1), T2> as CellOption<R, C>>⟧.does ((s.0, s.1), s.2) };
+    ghost does = { λ s. ⟦<Settings<(T0, T1), T2> as CellOption<R, C>>⟧.does (settings s) };
 
-    ghost leaves = { λ s. ⟦<Settings<(T0, T1), T2> as CellOption<R, C>>⟧.leaves ((s.0, s.1), s.2) };
+    ghost leaves = { λ s. ⟦<Settings<(T0, T1), T2> as CellOption<R, C>>⟧.leaves (settings s) };
 
-    ghost can_change = { λ s. ⟦<Settings<(T0, T1), T2> as CellOption<R, C>>⟧.can_change ((s.0, s.1), s.2) };
+    ghost can_change = { λ s. ⟦<Settings<(T0, T1), T2> as CellOption<R, C>>⟧.can_change (settings s) };
 
-    ghost never_refused = { λ s. ⟦<Settings<(T0, T1), T2> as CellOption<R, C>>⟧.never_refused ((s.0, s.1), s.2) };
+    ghost never_refused = { λ s. ⟦<Settings<(T0, T1), T2> as CellOption<R, C>>⟧.never_refused (settings s) };
 
-    ghost is_like = { λ p q. ⟦<Settings<(T0, T1), T2> as CellOption<R, C>>⟧.is_like ((p.0, p.1), p.2) ((q.0, q.1), q.2) };
+    ghost is_like = { λ p q. ⟦<Settings<(T0, T1), T2> as CellOption<R, C>>⟧.is_like (settings p) (settings q) };
 
-    ghost hint = { λ s. ⟦<Settings<(T0, T1), T2> as CellOption<R, C>>⟧.hint ((s.0, s.1), s.2) };
+    ghost hint = { λ s. ⟦<Settings<(T0, T1), T2> as CellOption<R, C>>⟧.hint (settings s) };
 
     fn change(
         self,
@@ -85,5 +88,7 @@ where
         combine_hints(hint, self.2.hint_change())
     }
 
-    ghost acts_like = { λ p q e. act_like_in_order (act_like_in_order (T0.acts_like p.0 q.0 e.0.0) (T1.acts_like p.1 q.1 e.0.1)) (T2.acts_like p.2 q.2 e.1) };
+    ghost acts_like = { λ p q e.
+        let two = act_like_in_order (T0.acts_like p.0 q.0 e.0.0) (T1.acts_like p.1 q.1 e.0.1) in
+        act_like_in_order two (T2.acts_like p.2 q.2 e.1) };
 }

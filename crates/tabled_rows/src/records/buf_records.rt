@@ -1,13 +1,10 @@
 //! A source whose first rows are read ahead.
 
-ghost use Rattle.std.specs.Prelude.{◌≡◌, ◌⊎◌, ◌++◌, Bool, false, true, List, IfOk};
-ghost use Rattle.std.specs.Iterator.{DrainsIf, HoldsAlong, IsFinite, count_unless};
-ghost use Rattle.std.specs.Iterator.Adapters.{fuse_done, fuse_source, fuse_steps};
-ghost use Rattle.std.specs.List.{All, AllZip};
+ghost use Rattle.std.specs.Prelude.{◌≡◌, ◌⊎◌, List, IfOk};
 ghost use Rattle.tabled_grid.specs.Grid.{map_items};
-ghost use Rattle.tabled_rows.specs.Gave.{FollowsBuffer, Gave, SourceMayBeAsked, ReadsAhead};
-ghost use Rattle.tabled_rows.specs.Listed.{GoesOverEach, ListsEachOnce};
-ghost use Rattle.tabled_rows.specs.Rows.{Shows, all_shown, first_rows};
+ghost use Rattle.tabled_rows.specs.Ahead.{AheadMayGive, AheadShows, CameAhead, OthersMayBeAsked};
+ghost use Rattle.tabled_rows.specs.Gave.{ReadsAhead};
+ghost use Rattle.tabled_rows.specs.Rows.{all_shown, first_rows};
 
 use crate::records::into_records::IntoRecords;
 use std::alloc::{AllocError, Global};
@@ -61,9 +58,9 @@ where
         requires { S.may_be_asked records ⊎ ((rows : List (List S.Shown)) × S.gives records rows) }
         ensures ahead { IfOk result (λ ahead. ReadsAhead n ahead.0 ahead.1) }
         ensures buffered { (rows : List (List S.Shown)) → S.gives records rows → IfOk result (λ ahead. all_shown S.shown ahead.0 ≡ first_rows n rows) }
-        ensures same { (rows : List (List S.Shown)) → S.gives records rows → IfOk result (λ ahead. ⟦<BufRecords<S, <S::IterRows as IntoIterator>::IntoIter, S::Cell> as IntoRecords>⟧.gives ahead rows) }
-        ensures asked { IfOk result (λ ahead. ⟦<BufRecords<S, <S::IterRows as IntoIterator>::IntoIter, S::Cell> as IntoRecords>⟧.may_be_asked ahead) }
-        ensures came { IfOk result (λ ahead. (read : List S.IterColumns) × AllZip (λ row cells. Gave S.IterColumns.into_iter_gives S.IterColumns.IntoIter.next_gives row cells true) read ahead.0 × ((others : List S.IterColumns) (ended : Bool) → DrainsIf (fuse_steps S.IterRows.IntoIter.next_gives) (ended ≡ true) ahead.1 others → S.may_give records (read ++ others) ended)) }
+        ensures same { (rows : List (List S.Shown)) → S.gives records rows → IfOk result (λ ahead. ⟦<Self as IntoRecords>⟧.gives ahead rows) }
+        ensures asked { IfOk result (λ ahead. ⟦<Self as IntoRecords>⟧.may_be_asked ahead) }
+        ensures came { IfOk result (CameAhead S.IterRows.IntoIter.Iterator S.IterColumns.IntoIterator S.IterColumns.IntoIter.Iterator (S.may_give records)) }
     {
         let mut rows = records.iter_rows().into_iter().fuse();
         let mut buffer = Vec::new(alloc);
@@ -96,11 +93,11 @@ where
 
     ghost shown = { S.shown };
 
-    ghost gives = { λ s rows. (others : List (List S.Shown)) × ListsEachOnce S.IterRows.IntoIter.can_next S.IterRows.IntoIter.next_gives S.IterRows.IntoIter.remaining (GoesOverEach S.IterColumns.into_iter_gives S.IterColumns.IntoIter.can_next S.IterColumns.IntoIter.next_gives S.IterColumns.IntoIter.remaining (Shows S.shown)) s.1 others × (rows ≡ all_shown S.shown s.0 ++ others) };
+    ghost gives = { AheadShows S.IterRows.IntoIter.Iterator S.IterColumns.IntoIterator S.IterColumns.IntoIter.Iterator S.shown };
 
-    ghost may_be_asked = { λ s. (fuse_done s.1 ≡ false → S.IterRows.IntoIter.can_next (fuse_source s.1)) × IsFinite (count_unless (fuse_done s.1) (S.IterRows.IntoIter.remaining (fuse_source s.1))) × HoldsAlong (fuse_steps S.IterRows.IntoIter.next_gives) s.1 (All (SourceMayBeAsked S.IterColumns.into_iter_gives S.IterColumns.IntoIter.can_next S.IterColumns.IntoIter.remaining)) };
+    ghost may_be_asked = { λ s. OthersMayBeAsked S.IterRows.IntoIter.Iterator S.IterColumns.IntoIterator S.IterColumns.IntoIter.Iterator s.1 };
 
-    ghost may_give = { λ s rows ended. (others : List S.IterColumns) × DrainsIf (fuse_steps S.IterRows.IntoIter.next_gives) (ended ≡ true) s.1 others × FollowsBuffer S.IterColumns.into_iter_gives s.0 others rows ended };
+    ghost may_give = { AheadMayGive S.IterRows.IntoIter.Iterator S.IterColumns.IntoIterator };
 
     fn iter_rows(self) -> BufRecordsIter<Fuse<<S::IterRows as IntoIterator>::IntoIter>, S::Cell> {
         let BufRecords { buffer, rows, .. } = self;
@@ -131,11 +128,11 @@ where
     ghost use Rattle.std.specs.Prelude.{◌≡◌};
     ghost use Rattle.std.specs.Iterator.{at_most, count_add};
     ghost use Rattle.std.specs.Vec.Iter.{into_iter_len};
-    ghost use Rattle.tabled_rows.specs.Steps.{GivesBuffered};
+    ghost use Rattle.tabled_rows.specs.Steps.{GivesBuffered, walk_of};
 
     ghost can_next = { λ s. I.can_next s.rows };
 
-    ghost next_gives = { λ s r t. GivesBuffered I.next_gives I.Item.into_iter_gives (record { buffer = s.buffer; rows = s.rows }) r (record { buffer = t.buffer; rows = t.rows }) };
+    ghost next_gives = { λ s r t. GivesBuffered I.next_gives I.Item.into_iter_gives (walk_of s) r (walk_of t) };
 
     ghost remaining = { λ s. count_add (at_most (into_iter_len s.buffer)) (I.remaining s.rows) };
 

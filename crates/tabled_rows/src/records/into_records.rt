@@ -1,9 +1,7 @@
 //! What gives rows of cells, and what limits, skips and reads ahead what is given.
 
 ghost use Rattle.std.specs.Prelude.{◌≡◌, Bool, List};
-ghost use Rattle.tabled_rows.specs.Gave.{EachSourceMayBeAsked, Gave, SourceMayBeAsked};
-ghost use Rattle.tabled_rows.specs.Listed.{GoesOverEach};
-ghost use Rattle.tabled_rows.specs.Rows.{Shows};
+ghost use Rattle.tabled_rows.specs.Sources.{RowsMayBeAsked, RowsShow, WhateverComes};
 
 pub use crate::records::buf_records::{BufIterator, BufRecords, BufRecordsIter};
 pub use crate::records::either_string::EitherString;
@@ -45,9 +43,11 @@ pub trait IntoRecords {
     ///
     /// Ported from `tabled::grid::records::IntoRecords::iter_rows`.
     fn iter_rows(self) -> Self::IterRows
-        ensures given { (rows : List (List Shown)) → gives self rows → GoesOverEach Self.IterRows.into_iter_gives Self.IterRows.IntoIter.can_next Self.IterRows.IntoIter.next_gives Self.IterRows.IntoIter.remaining (GoesOverEach Self.IterColumns.into_iter_gives Self.IterColumns.IntoIter.can_next Self.IterColumns.IntoIter.next_gives Self.IterColumns.IntoIter.remaining (Shows shown)) result rows }
-        ensures asked { may_be_asked self → EachSourceMayBeAsked Self.IterRows.into_iter_gives Self.IterRows.IntoIter.can_next Self.IterRows.IntoIter.remaining Self.IterRows.IntoIter.next_gives (SourceMayBeAsked Self.IterColumns.into_iter_gives Self.IterColumns.IntoIter.can_next Self.IterColumns.IntoIter.remaining) result }
-        ensures came { (rows : List Self.IterColumns) (ended : Bool) → Gave Self.IterRows.into_iter_gives Self.IterRows.IntoIter.next_gives result rows ended → may_give self rows ended };
+        ensures given { (rows : List (List Shown)) → gives self rows → RowsShow
+            Self.IterRows.IntoIterator Self.IterRows.IntoIter.Iterator Self.IterColumns.IntoIterator Self.IterColumns.IntoIter.Iterator shown result rows }
+        ensures asked { may_be_asked self → RowsMayBeAsked
+            Self.IterRows.IntoIterator Self.IterRows.IntoIter.Iterator Self.IterColumns.IntoIterator Self.IterColumns.IntoIter.Iterator result }
+        ensures came { WhateverComes Self.IterRows.IntoIterator Self.IterRows.IntoIter.Iterator (may_give self) result };
 }
 
 impl<T: Drop> IntoRecords for Vec<Vec<T>> {

@@ -1,8 +1,8 @@
 //! Rows that something goes over, as a source of rows.
 
 ghost use Rattle.std.specs.Prelude.{◌≡◌};
-ghost use Rattle.tabled_rows.specs.Gave.{EachSourceMayBeAsked, Gave, SourceMayBeAsked};
-ghost use Rattle.tabled_rows.specs.Listed.{GoesOverEach};
+ghost use Rattle.tabled_rows.specs.Gave.{Gave};
+ghost use Rattle.tabled_rows.specs.Sources.{RowsMayBeAsked, RowsShow};
 
 use crate::records::into_records::IntoRecords;
 use std::marker::Model;
@@ -47,9 +47,9 @@ where
 
     ghost shown = { λ cell. cell };
 
-    ghost gives = { GoesOverEach I.into_iter_gives I.IntoIter.can_next I.IntoIter.next_gives I.IntoIter.remaining (GoesOverEach I.Item.into_iter_gives I.Item.IntoIter.can_next I.Item.IntoIter.next_gives I.Item.IntoIter.remaining (λ cell x. cell ≡ x)) };
+    ghost gives = { RowsShow I.IntoIterator I.IntoIter.Iterator I.Item.IntoIterator I.Item.IntoIter.Iterator (λ cell. cell) };
 
-    ghost may_be_asked = { EachSourceMayBeAsked I.into_iter_gives I.IntoIter.can_next I.IntoIter.remaining I.IntoIter.next_gives (SourceMayBeAsked I.Item.into_iter_gives I.Item.IntoIter.can_next I.Item.IntoIter.remaining) };
+    ghost may_be_asked = { RowsMayBeAsked I.IntoIterator I.IntoIter.Iterator I.Item.IntoIterator I.Item.IntoIter.Iterator };
 
     ghost may_give = { Gave I.into_iter_gives I.IntoIter.next_gives };
 

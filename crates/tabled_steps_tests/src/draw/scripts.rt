@@ -14,7 +14,7 @@ pub(crate) fn drawn(alloc: Global, script: &str) -> Result<Option<String>, Alloc
     drawn_in(alloc, script, &Look::default())
 }
 
-/// The same in a look.
+/// The picture in a look of the table that a script makes, and none of a faulty script.
 pub(crate) fn drawn_in(
     alloc: Global,
     script: &str,

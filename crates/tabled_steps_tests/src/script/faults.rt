@@ -87,7 +87,7 @@ const STEPS: &[&str] = &[
     "set\tskip\t1\tcolumns\t0\t1\tx",
 ];
 
-/// The same of a step with something before it and after it.
+/// Says whether a step, with something before it and after it, is answered by such a fault.
 fn is_faulty_within(
     alloc: Global,
     before: &str,

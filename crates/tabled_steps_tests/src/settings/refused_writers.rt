@@ -13,7 +13,7 @@ use tabled_settings::formatting::Charset;
 /// What is left where the first, the second, the third or the fourth write or answer is refused.
 const LEFT: &[&str] = &["a b c /!", "a! b c /!", "a! b! c /!", "a! b! c! /"];
 
-/// The same, wherever the text stands.
+/// Adds an exclamation mark, wherever the text stands.
 fn exclaimed_at(alloc: Global, text: &str, _: Position) -> Result<String, AllocError> {
     exclaimed(alloc, text)
 }

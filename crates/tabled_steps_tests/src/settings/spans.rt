@@ -71,7 +71,7 @@ where
     Ok(words)
 }
 
-/// The same of a table that is spelled, in a vector for each row.
+/// What a span makes of a table that is spelled, in a vector for each row.
 fn spanned_nested(
     alloc: Global,
     old: &str,
@@ -87,7 +87,8 @@ fn spanned_nested(
     )
 }
 
-/// The same in one vector of cells that refuses each growth, and one write, which is counted from 1.
+/// What a span makes of it in one vector of cells that refuses its first growth, and one write, which is counted
+/// from 1, or none at 0.
 fn spanned_refusing(
     alloc: Global,
     old: &str,

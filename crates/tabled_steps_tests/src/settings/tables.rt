@@ -53,7 +53,7 @@ where
     made(alloc, nested(alloc, old)?, merged(alloc, old)?, option)
 }
 
-/// The same in a vector for each row.
+/// Whether it makes that in a vector for each row.
 pub(crate) fn makes_nested<O>(alloc: Global, old: &str, option: O, new: &str) -> bool
 where
     O: TableOption<Nested, SpannedConfig, ()> + Drop,
@@ -76,8 +76,8 @@ where
     made(alloc, records, merged(alloc, old)?, option)
 }
 
-/// The same in a store that refuses one growth and one write, each counted from 1, or none at 0. A refusal is
-/// told by `!`.
+/// Whether it leaves that in a store that refuses one growth and one write, each counted from 1, or none at 0. A
+/// refusal is told by `!`.
 pub(crate) fn makes_refusing<O>(
     alloc: Global,
     calls: (usize, usize),

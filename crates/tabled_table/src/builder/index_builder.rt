@@ -37,7 +37,7 @@ impl Model for IndexBuilder {
 }
 
 impl IndexBuilder {
-    ghost use Rattle.std.specs.FinMap as map;
+    ghost use Rattle.tabled_grid.specs.Spans as spans;
     ghost use Rattle.std.specs.Prelude.{◌≡◌, ◌≤◌, [], IfOk, IfSome, IsOk, None, true, false, length, option_map};
     ghost use Rattle.std.specs.String.{string_bytes};
     ghost use Rattle.tabled_grid.specs.Grid.{map_grid, width_of};
@@ -180,7 +180,7 @@ impl IndexBuilder {
     /// Ported from `tabled::builder::IndexBuilder::build`.
     pub fn build(self, alloc: Global) -> Result<Table, AllocError>
         ensures cells { IfOk result (λ table. map_grid string_bytes table.cells ≡ table_of (builder_of self)) }
-        ensures spans { IfOk result (λ table. table.spans ≡ map.empty) }
+        ensures spans { IfOk result (λ table. table.spans ≡ spans.empty) }
     {
         self.into_builder(alloc)?.build(alloc)
     }

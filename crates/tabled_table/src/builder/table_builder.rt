@@ -30,7 +30,7 @@ impl Model for Builder {
 }
 
 impl Builder {
-    ghost use Rattle.std.specs.FinMap as map;
+    ghost use Rattle.tabled_grid.specs.Spans as spans;
     ghost use Rattle.std.specs.Prelude.{◌≡◌, ◌<◌, ◌≤◌, [], IfOk, IsOk, OnOk, OnErr, length};
     ghost use Rattle.std.specs.String.{string_bytes};
     ghost use Rattle.tabled_grid.specs.Evenness.{AreWide};
@@ -184,7 +184,7 @@ impl Builder {
     /// Ported from `tabled::builder::Builder::build`.
     pub fn build(self, alloc: Global) -> Result<Table, AllocError>
         ensures cells { IfOk result (λ table. map_grid string_bytes table.cells ≡ table_of self) }
-        ensures spans { IfOk result (λ table. table.spans ≡ map.empty) }
+        ensures spans { IfOk result (λ table. table.spans ≡ spans.empty) }
     {
         let records = VecRecords::new(alloc, self.into_cells())?;
         Ok(Table::from_records(alloc, records))

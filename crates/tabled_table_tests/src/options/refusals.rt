@@ -25,7 +25,7 @@ where
     log.is_told(done, want)
 }
 
-/// Whether an option on cells does the same.
+/// Whether an option on cells, applied to the second row, writes these letters, and `!` where it is refused.
 fn logs_at<O>(alloc: Global, option: O, limit: usize, want: &str) -> bool
 where
     O: CellOption<Flat, Log> + Drop,
@@ -148,7 +148,8 @@ where
     is_left(alloc, &store, done, want)
 }
 
-/// The same for an option on cells that grows no store, applied to all cells.
+/// Whether an option on cells, applied to all of them, leaves these texts, with `!` after them where it was
+/// refused, in a store that refuses one write, which is counted from 1, or none at 0.
 fn leaves_at_all<O>(alloc: Global, option: O, set: usize, want: &str) -> bool
 where
     O: CellOption<Refusing<Flat>, ()> + Drop,

@@ -8,7 +8,7 @@ use tabled_table::builder::Builder;
 
 /// Records padded with `-`.
 fn padded(alloc: Global) -> Result<Builder, AllocError> {
-    let mut padded = builder(alloc, &[])?;
+    let mut padded = Builder::new(alloc);
     padded.set_empty(String::from_str(alloc, "-")?);
     for words in ["a b", "c", "d e f"] {
         padded.push_record(alloc, texts(alloc, words)?)?;
@@ -16,7 +16,7 @@ fn padded(alloc: Global) -> Result<Builder, AllocError> {
     Ok(padded)
 }
 
-/// The same, and then a record padded with nothing.
+/// Records padded with `-`, above which stands one padded with nothing.
 fn padded_twice(alloc: Global) -> Result<Builder, AllocError> {
     let mut padded = padded(alloc)?;
     padded.set_empty(String::new(alloc));
@@ -27,7 +27,7 @@ fn padded_twice(alloc: Global) -> Result<Builder, AllocError> {
 /// The records that a call makes of others, given words, where this is the empty text.
 fn after(
     alloc: Global,
-    (records, empty): (&[&str], &str),
+    (records, empty): (&str, &str),
     call: Call,
     words: &str,
 ) -> Result<Builder, AllocError> {
@@ -40,7 +40,7 @@ fn after(
 #[test]
 fn inserts_texts(rt: HostRuntime) {
     let alloc = rt.alloc();
-    let two = ["a b", "c _"];
+    let two = "a b / c _ /";
     for &(call, words, columns, want) in &[
         (Call::PushRecord, "x", 2, "a b / c _ / x - /"),
         (Call::ExtendRecord, "x y z", 3, "a b - / c _ - / x y z /"),
@@ -53,7 +53,7 @@ fn inserts_texts(rt: HostRuntime) {
         (Call::InsertColumn(1), "x y z", 3, "a x b / c y _ /"),
         (Call::InsertColumn(2), "", 3, "a b - / c _ - /"),
     ] {
-        assert!(rt; holds(alloc, after(alloc, (&two, "-"), call, words), columns, want));
+        assert!(rt; holds(alloc, after(alloc, (two, "-"), call, words), columns, want));
     }
     for &(call, words, columns, want) in &[
         (Call::PushRecord, "x y", 2, "x y /"),
@@ -61,14 +61,14 @@ fn inserts_texts(rt: HostRuntime) {
         (Call::PushColumn, "", 1, ""),
         (Call::InsertColumn(0), "x y", 1, ""),
     ] {
-        assert!(rt; holds(alloc, after(alloc, (&[], "-"), call, words), columns, want));
+        assert!(rt; holds(alloc, after(alloc, ("", "-"), call, words), columns, want));
     }
     for &(call, words, want) in &[
         (Call::PushColumn, "x y z", "a x / b y / _ z /"),
         (Call::InsertColumn(0), "p", "p a / _ b /"),
         (Call::InsertColumn(0), "p q r", "p a / q b /"),
     ] {
-        assert!(rt; holds(alloc, after(alloc, (&["a", "b"], ""), call, words), 2, want));
+        assert!(rt; holds(alloc, after(alloc, ("a / b /", ""), call, words), 2, want));
     }
     assert!(rt;
         holds(
@@ -98,7 +98,7 @@ fn refuses_more_columns_than_a_number_counts(rt: HostRuntime) -> Result<(), Fail
 }
 
 /// A builder of records that is cleaned, of its padding `-` not.
-fn cleaned(alloc: Global, records: &[&str]) -> Result<Builder, AllocError> {
+fn cleaned(alloc: Global, records: &str) -> Result<Builder, AllocError> {
     let mut cleaned = builder(alloc, records)?;
     cleaned.set_empty(String::from_str(alloc, "-")?);
     cleaned.clean();
@@ -109,13 +109,13 @@ fn cleaned(alloc: Global, records: &[&str]) -> Result<Builder, AllocError> {
 fn cleans(rt: HostRuntime) {
     let alloc = rt.alloc();
     for &(records, columns, want) in &[
-        (["_ a", "_ _"], 1, "a /"),
-        (["a _ b", "_ _ _"], 2, "a b /"),
-        (["a _", "_ b"], 2, "a _ / _ b /"),
-        (["a -", "_ _"], 2, "a - /"),
-        (["_ _", "_ _"], 0, ""),
+        ("_ a / _ _ /", 1, "a /"),
+        ("a _ b / _ _ _ /", 2, "a b /"),
+        ("a _ / _ b /", 2, "a _ / _ b /"),
+        ("a - / _ _ /", 2, "a - /"),
+        ("_ _ / _ _ /", 0, ""),
     ] {
-        assert!(rt; holds(alloc, cleaned(alloc, &records), columns, want));
+        assert!(rt; holds(alloc, cleaned(alloc, records), columns, want));
     }
     let mut declared = Builder::with_capacity(alloc, 0, 3);
     if let Ok(builder) = &mut declared {
@@ -126,7 +126,7 @@ fn cleans(rt: HostRuntime) {
 
 /// The records `a b c / d e f` without the second column and the first record.
 fn cut(alloc: Global) -> Result<Builder, AllocError> {
-    let mut cut = builder(alloc, &["a b c", "d e f"])?;
+    let mut cut = builder(alloc, "a b c / d e f /")?;
     if cut.count_records() == 2 && cut.count_columns() == 3 {
         cut.remove_column(1);
         cut.remove_record(0);
@@ -136,7 +136,7 @@ fn cut(alloc: Global) -> Result<Builder, AllocError> {
 
 /// A builder whose records were cleared.
 fn cleared(alloc: Global) -> Result<Builder, AllocError> {
-    let mut cleared = builder(alloc, &["a"])?;
+    let mut cleared = builder(alloc, "a /")?;
     cleared.clear();
     Ok(cleared)
 }
@@ -176,9 +176,8 @@ fn makes_builders(rt: HostRuntime) {
 #[test]
 fn builds_tables(rt: HostRuntime) -> Result<(), Fail> {
     let alloc = rt.alloc();
-    let languages = builder(alloc, &["C Dennis_Ritchie 1972", "Go Rob_Pike 2009"])?;
     let rows = "C Dennis_Ritchie 1972 / Go Rob_Pike 2009 /";
-    assert!(rt; builds(alloc, languages.build(alloc), 3, rows));
+    assert!(rt; builds(alloc, builder(alloc, rows)?.build(alloc), 3, rows));
     assert!(rt;
         builds(
             alloc,

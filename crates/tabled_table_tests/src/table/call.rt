@@ -14,11 +14,11 @@ pub(crate) fn texts(alloc: Global, words: &str) -> Result<Vec<String>, AllocErro
     Ok(texts)
 }
 
-/// A builder of records, each written as words.
-pub(crate) fn builder(alloc: Global, records: &[&str]) -> Result<Builder, AllocError> {
+/// A builder of records, spelled as a table whose rows may differ in length.
+pub(crate) fn builder(alloc: Global, records: &str) -> Result<Builder, AllocError> {
     let mut builder = Builder::new(alloc);
-    for words in records {
-        builder.push_record(alloc, texts(alloc, *words)?)?;
+    for words in records.split_terminator('/') {
+        builder.push_record(alloc, texts(alloc, words)?)?;
     }
     Ok(builder)
 }

@@ -17,9 +17,8 @@ const LONG: &str = "more_than_15_bytes";
 
 /// Makes a call, and says whether the builder is as it was if that is refused.
 fn keeps(alloc: Global, call: Call, words: &str) -> Result<bool, AllocError> {
-    let records = ["a b", "c"];
-    let before = builder(alloc, &records)?;
-    let mut after = builder(alloc, &records)?;
+    let before = builder(alloc, "a b / c /")?;
+    let mut after = builder(alloc, "a b / c /")?;
     after.set_empty(String::from_str(alloc, LONG)?);
     let given = texts(alloc, words)?;
     if call.make(alloc, &mut after, given).is_ok() {
@@ -47,7 +46,7 @@ fn keeps_the_builder_at_a_refusal(rt: HostRuntime) {
 
 /// Writes texts by a call of a table, and says whether the first of them alone are written if that is refused.
 fn keeps_what_it_wrote(alloc: Global, is_of_cells: bool) -> Result<bool, AllocError> {
-    let mut table = builder(alloc, &["a b", "c d"])?.build(alloc)?;
+    let mut table = builder(alloc, "a b / c d /")?.build(alloc)?;
     let made = if is_of_cells {
         table.modify(alloc, Rows::first(), TextRef(LONG))
     } else {
@@ -80,7 +79,7 @@ fn consume_rows(alloc: Global) -> Result<(), AllocError> {
 
 /// Makes the calls on an index that drop what they were given at a refusal.
 fn consume_index(alloc: Global) -> Result<(), AllocError> {
-    let index = builder(alloc, &["a b", "c"])?.index(alloc)?;
+    let index = builder(alloc, "a b / c /")?.index(alloc)?;
     let turned = index.column(alloc, 1)?.transpose(alloc)?;
     turned.into_builder(alloc)?.index(alloc)?.build(alloc)?;
     Ok(())

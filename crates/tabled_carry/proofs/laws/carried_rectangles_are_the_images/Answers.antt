@@ -3,4 +3,4 @@ use Rattle.tabled_carry.proofs.RectanglesCarried.{image_is}
 use Rattle.tabled_carry.proofs.laws.carried_rectangles_are_the_images.Goals as goal
 
 pub returns : goal.returns
-returns c = λ places rows columns m sizes. image_is places (keep_fitting rows columns m) rows columns (keep_fitting-fits rows columns m sizes)
+returns c = λ places rows columns m. image_is places (keep_fitting rows columns m) rows columns (keep_fitting-fits rows columns m)

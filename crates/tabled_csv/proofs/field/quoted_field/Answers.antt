@@ -6,12 +6,12 @@ use Rattle.tabled_csv.specs.declared.stop.Stop.{Stop}
 use Rattle.tabled_csv.proofs.Utf8Parts.{inner-utf8}
 use Rattle.tabled_csv.proofs.field.quoted_field.Goals as goal
 
-closes : (behind : List ℕ) (closing : Closing) (by : ClosedBy behind closing) → ClosesAt behind by.text (take (length behind - (closing.place + 1)) (drop (closing.place + 1) behind))
-closes behind closing by = subst (ClosesAt behind by.text) (sym (take_rest behind (closing.place + 1))) by.closes
+closes : (behind : List ℕ) (closing : Closing) (closed : ClosedBy behind closing) → ClosesAt behind closed.text (take (length behind - (closing.place + 1)) (drop (closing.place + 1) behind))
+closes behind closing closed = subst (ClosesAt behind closed.text) (sym (take_rest behind (closing.place + 1))) closed.closes
 
-form : (s : ℕ) (bytes behind : List ℕ) (closing : Closing) (by : ClosedBy behind closing) (stop : Stop) (after : List ℕ) → bytes ≡ 34 ∷ behind
-    → StopsQuoted s (take (length behind - (closing.place + 1)) (drop (closing.place + 1) behind)) stop after → FormAt s bytes by.text stop after
-form s bytes behind closing by stop after begins stops = quoted-form s bytes behind begins by.text _ stop after (closes behind closing by) stops
+form : (s : ℕ) (bytes behind : List ℕ) (closing : Closing) (closed : ClosedBy behind closing) (stop : Stop) (after : List ℕ) → bytes ≡ 34 ∷ behind
+    → StopsQuoted s (take (length behind - (closing.place + 1)) (drop (closing.place + 1) behind)) stop after → FormAt s bytes closed.text stop after
+form s bytes behind closing closed stop after begins stops = quoted-form s bytes behind begins closed.text _ stop after (closes behind closing closed) stops
 
 pub returns-in_default-stop_at : goal.returns-in_default-stop_at
 returns-in_default-stop_at c =
@@ -20,14 +20,14 @@ returns-in_default-stop_at c =
 
 pub returns-in_default-from_utf8 : goal.returns-in_default-from_utf8
 returns-in_default-from_utf8 c =
-    let by = c.in-Some.ensures in
+    let closed = c.in-Some.ensures in
     let stop = c.in-Some-stop_at.stop in
     let after = c.in-Some-stop_at.after.now in
-    let is : c.in_ok-undoubled.field-0.now ≡ by.text = c.in_ok-undoubled.ensures by.text by.inner in (
-      by.text,
+    let is : c.in_ok-undoubled.field-0.now ≡ closed.text = c.in_ok-undoubled.ensures closed.text closed.inner in (
+      closed.text,
       stop,
       after,
-      form c.args.separator c.args.bytes.now c.args.behind.now c.in-Some.closing by stop after c.requires.behind c.in-Some-stop_at.ensures,
+      form c.args.separator c.args.bytes.now c.args.behind.now c.in-Some.closing closed stop after c.requires.behind c.in-Some-stop_at.ensures,
       (λ valid. c.in_default-from_utf8.ensures.cases.0 (subst IsUtf8 (sym is) valid)),
       refl,
     )
@@ -37,38 +37,38 @@ is_utf8-requires c is = inner-utf8 c.args.bytes.now c.args.behind.now c.in-Some.
 
 pub returns-then-closing : goal.returns-then-closing
 returns-then-closing c =
-    let by = c.in-Some.ensures in
+    let closed = c.in-Some.ensures in
     let stop = c.in-Some-stop_at.stop in
     let after = c.in-Some-stop_at.after.now in
     let read = c.in-Ok.ensures.cases in
-    let is : c.in-Ok.text.now ≡ by.text = read.0 ∙ c.in_ok-undoubled.ensures by.text by.inner in
+    let is : c.in-Ok.text.now ≡ closed.text = read.0 ∙ c.in_ok-undoubled.ensures closed.text closed.inner in
     record {
       utf8 = subst IsUtf8 (sym read.0) read.1;
       at = subst (λ (text : List ℕ). FormAt c.args.separator c.args.bytes.now text stop after) (sym is)
-          (form c.args.separator c.args.bytes.now c.args.behind.now c.in-Some.closing by stop after c.requires.behind c.in-Some-stop_at.ensures);
+          (form c.args.separator c.args.bytes.now c.args.behind.now c.in-Some.closing closed stop after c.requires.behind c.in-Some-stop_at.ensures);
     }
 
 pub returns-then-not-is_utf8 : goal.returns-then-not-is_utf8
 returns-then-not-is_utf8 c =
-    let by = c.in-Some.ensures in
+    let closed = c.in-Some.ensures in
     let stop = c.in-Some-stop_at.stop in
     let after = c.in-Some-stop_at.after.now in (
-      by.text,
+      closed.text,
       stop,
       after,
-      form c.args.separator c.args.bytes.now c.args.behind.now c.in-Some.closing by stop after c.requires.behind c.in-Some-stop_at.ensures,
-      (λ valid. c.if-not-is_utf8.ensures (subst IsUtf8 (sym (by.same c.if-closing.false)) valid)),
+      form c.args.separator c.args.bytes.now c.args.behind.now c.in-Some.closing closed stop after c.requires.behind c.in-Some-stop_at.ensures,
+      (λ valid. c.if-not-is_utf8.ensures (subst IsUtf8 (sym (closed.same c.if-closing.false)) valid)),
       refl,
     )
 
 pub returns : goal.returns
 returns c =
-    let by = c.in-Some.ensures in
+    let closed = c.in-Some.ensures in
     let stop = c.in-Some-stop_at.stop in
     let after = c.in-Some-stop_at.after.now in
     let whole = c.from_utf8_unchecked.ensures in
     record {
       utf8 = subst IsUtf8 (sym whole) c.if-not-is_utf8.ensures;
-      at = subst (λ (text : List ℕ). FormAt c.args.separator c.args.bytes.now text stop after) (sym (whole ∙ by.same c.if-closing.false))
-          (form c.args.separator c.args.bytes.now c.args.behind.now c.in-Some.closing by stop after c.requires.behind c.in-Some-stop_at.ensures);
+      at = subst (λ (text : List ℕ). FormAt c.args.separator c.args.bytes.now text stop after) (sym (whole ∙ closed.same c.if-closing.false))
+          (form c.args.separator c.args.bytes.now c.args.behind.now c.in-Some.closing closed stop after c.requires.behind c.in-Some-stop_at.ensures);
     }

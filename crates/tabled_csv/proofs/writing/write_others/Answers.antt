@@ -1,5 +1,5 @@
 use Rattle.tabled_held.proofs.SentBytes.{sends-as, sends-none, sends-then}
-use Rattle.tabled_csv.proofs.Common.{◌+◌, ◌-◌, ◌∙◌, ◌≡◌, [], AreTexts, IsUtf8, Some, ap, arith, drop, get_or, others_of, slice_get, subst, sym, take}
+use Rattle.tabled_csv.proofs.Common.{◌+◌, ◌-◌, ◌∙◌, ◌≡◌, AreTexts, IsUtf8, Some, ap, arith, drop, others_of, row_at, slice_get, subst, sym, take}
 use Rattle.tabled_csv.proofs.Writes.{all-behind, all-more, one-more, others-more}
 use Rattle.tabled_csv.proofs.writing.write_others.Goals as goal
 
@@ -9,7 +9,7 @@ loop-j-init g c = record { sends = sends-none; texts = tt }
 pub loop-j-preserved : goal.loop-j-preserved
 loop-j-preserved g c =
     let s = c.args.separator in
-    let row = get_or (g.R.Rows.texts c.args.rows.now) c.args.i [] in
+    let row = row_at (g.R.Rows.texts c.args.rows.now) c.args.i in
     let j = c.loop-j.j in
     let text = c.as_bytes-text.result.now in
     let at : slice_get row j ≡ Some text = c.text.ensures ∙ ap Some (sym c.as_bytes-text.ensures.value) in
@@ -23,6 +23,6 @@ loop-j-preserved g c =
 
 pub returns : goal.returns
 returns g c =
-    let row = get_or (g.R.Rows.texts c.args.rows.now) c.args.i [] in
+    let row = row_at (g.R.Rows.texts c.args.rows.now) c.args.i in
     let all = all-behind row c.loop-j.j (omega (arith, c.width-j-end.ensures, c.loop-j-test.false)) in
     record { sends = sends-as (ap (others_of c.args.separator) all) c.loop-j.invariant.sends; texts = subst AreTexts all c.loop-j.invariant.texts }

@@ -1,11 +1,11 @@
 use Rattle.tabled_held.proofs.SentBytes.{sends-as, sends-then}
-use Rattle.tabled_csv.proofs.Common.{◌==◌, ◌∙◌, ◌≡◌, [], Some, ap, get_or, slice_get, sym}
+use Rattle.tabled_csv.proofs.Common.{◌==◌, ◌∙◌, ◌≡◌, Some, ap, row_at, slice_get, sym}
 use Rattle.tabled_csv.proofs.Writes.{record-is, row-texts}
 use Rattle.tabled_csv.proofs.writing.write_record.Goals as goal
 
 pub returns : goal.returns
 returns g c =
-    let row = get_or (g.R.Rows.texts c.args.rows.now) c.args.i [] in
+    let row = row_at (g.R.Rows.texts c.args.rows.now) c.args.i in
     let text = c.as_bytes-text.result.now in
     let quoted = c.first_is_quoted-is_quoted in
     let at : slice_get row 0 ≡ Some text = c.text.ensures ∙ ap Some (sym c.as_bytes-text.ensures.value) in

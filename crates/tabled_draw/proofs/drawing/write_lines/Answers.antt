@@ -1,7 +1,7 @@
 use Rattle.tabled_draw.proofs.Common.{◌+◌, ◌∙◌, ◌≡◌, AreUnmerged, Draws, IsOwnerRow, ap, ap₂, arith, border_line, border_of_rests, bytes_in, length, map_grid, rectangles, refl, subst, sym, top, with_newlines}
 use Rattle.tabled_draw.proofs.Owned.{count-none, owner-below, owner-top, row-outside}
 use Rattle.tabled_draw.proofs.Rows.{all-rows, border-text, end-inside, left-outside, more-rows}
-use Rattle.tabled_draw.proofs.Sent.{draws-as, draws-none, draws-then}
+use Rattle.tabled_draw.proofs.Pens.{draws-as, draws-none, draws-then}
 use Rattle.tabled_draw.proofs.Unmerged.{none-left, unmerged-rows}
 use Rattle.tabled_draw.proofs.drawing.write_lines.Goals as goal
 
@@ -54,7 +54,7 @@ returns g c =
     let style = c.args.sheet.now.look.style in
     let aligns = c.args.sheet.now.look.alignments.now in
     let last : c.args.sheet.now.rows ≡ c.loop-i.i = c.requires.sheet.rows ∙ sym i in
-    let drawn : Draws (g.W.Write.contents c.loop-i.writer) c.loop-i.held (g.W.Write.contents c.write_border.new.writer) c.write_border.new.held (border_of_rests style aligns t.rows c.loop-i.i c.args.sheet.now.edges.now c.deref.result.now c.deref-2.result.now c.loop-i.band.rests.items) =
+    let drawn : Draws g.W.Write.contents c.loop-i.pen c.write_border.new.pen (border_of_rests style aligns t.rows c.loop-i.i c.args.sheet.now.edges.now c.deref.result.now c.deref-2.result.now c.loop-i.band.rests.items) =
     draws-as (ap₂ (λ n k. border_of_rests style aligns n k c.args.sheet.now.edges.now c.deref.result.now c.deref-2.result.now c.loop-i.band.rests.items) c.requires.sheet.rows last) c.in_ok-write_border.ensures.draws in
     draws-as (all-rows style aligns t (rectangles m) c.loop-i.i i c.requires.high c.requires.wide) (draws-then c.loop-i.invariant.drawn
     (draws-as (border-text style aligns t m c.requires.sheet.fits c.args.sheet.now.edges.now c.requires.sheet.edges c.loop-i.i (top style t (rectangles m) c.loop-i.i) t.rows c.deref.result.now c.deref-2.result.now c.loop-i.band.rests.items refl refl over under c.loop-i.invariant.band.left c.loop-i.invariant.band.long

@@ -1,6 +1,6 @@
-use Rattle.tabled_draw.proofs.Common.{[], ◌+◌, ◌<◌, ◌∙◌, ◌≡◌, Draws, None, ap, ap₂, arith, bytes_in, column_if, each, edge, false, get_or, is_drawn, left_if, length, line_of_rests, lit<, stretches, subst, sym}
+use Rattle.tabled_draw.proofs.Common.{[], ◌+◌, ◌<◌, ◌∙◌, ◌≡◌, None, ap, ap₂, arith, bytes_in, column_if, each, edge, false, get_or, is_drawn, left_if, length, stretches, sym}
 use Rattle.tabled_draw.proofs.Each.{changed-at, each-more}
-use Rattle.tabled_draw.proofs.Sent.{draws-as, draws-byte, draws-then}
+use Rattle.tabled_draw.proofs.Pens.{draws-as, draws-then}
 use Rattle.tabled_draw.specs.Lines.{drawn_line}
 use Rattle.tabled_draw.proofs.lines.write_border_line.Goals as goal
 
@@ -34,8 +34,7 @@ returns-clause-draws g c =
     let old = bytes_in c.args.rests.now.items in
     let columns : c.len-columns.result ≡ length c.args.rests.now.items = omega (arith, c.len-columns.ensures) in
     let end : c.loop-j.j ≡ length c.args.rests.now.items = omega (arith, c.loop-j-test.false, c.loop-j.auto.j-end, c.len-columns.ensures) in
-    subst (λ held. Draws (g.W.Write.contents c.args.writer.now) c.args.held.now (g.W.Write.contents c.push.new.writer) held (line_of_rests c.args.sheet.now.look.style c.args.sheet.now.look.alignments.now false c.args.sheet.now.edges.now c.args.above.now c.args.below.now c.args.rests.now.items)) (sym c.in_ok-take_outcome.ensures.1)
-    (draws-as (ap (λ n. drawn_line c.args.sheet.now.look.style c.args.sheet.now.look.alignments.now n false c.args.sheet.now.edges.now c.args.above.now c.args.below.now old) columns) (draws-then (draws-then
+    draws-as (ap (λ n. drawn_line c.args.sheet.now.look.style c.args.sheet.now.look.alignments.now n false c.args.sheet.now.edges.now c.args.above.now c.args.below.now old) columns) (draws-then (draws-then
     (draws-as (ap (λ n. each n (stretches c.args.sheet.now.look.style c.args.sheet.now.look.alignments.now c.len-columns.result false c.args.sheet.now.edges.now c.args.above.now c.args.below.now old)) (end ∙ sym columns)) c.loop-j.invariant.drawn)
     (draws-as (ap (λ d. edge c.args.sheet.now.look.style false d (get_or c.args.above.now c.len-columns.result None) (get_or c.args.above.now (c.len-columns.result + 1) None) (get_or c.args.below.now c.len-columns.result None) (get_or c.args.below.now (c.len-columns.result + 1) None)) c.is_drawn-drawn-2.ensures) c.write_corner-2.ensures))
-    (draws-byte _ _ _ _ 10 (lit< tt) c.push.ensures)))
+    c.in_ok-end_line.ensures)

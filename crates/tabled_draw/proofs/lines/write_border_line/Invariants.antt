@@ -8,5 +8,5 @@ invariant-loop-j g l = record {
   rests : Changed (λ k. left_of k (get_or l.above (k + 1) None) (get_or l.below (k + 1) None) (get_or (bytes_in l.initial.rests.items) k [])) (bytes_in l.initial.rests.items) (bytes_in l.rests.items) l.j;
   is_drawn : l.j < l.columns → l.drawn ≡ is_drawn l.lines l.columns l.j;
   left : l.left ≡ differ (get_or l.above l.j None) (get_or l.below l.j None);
-  drawn : Draws (g.W.Write.contents l.initial.writer) l.initial.held (g.W.Write.contents l.writer) l.held (each l.j (stretches l.sheet.look.style l.sheet.look.alignments.now l.columns false l.sheet.edges.now l.above l.below (bytes_in l.initial.rests.items)));
+  drawn : Draws g.W.Write.contents l.initial.pen l.pen (each l.j (stretches l.sheet.look.style l.sheet.look.alignments.now l.columns false l.sheet.edges.now l.above l.below (bytes_in l.initial.rests.items)));
 }

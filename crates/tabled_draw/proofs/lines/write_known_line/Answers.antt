@@ -1,5 +1,5 @@
-use Rattle.tabled_draw.proofs.Common.{[], ◌==◌, ◌∙◌, ◌≡◌, ◌≢◌, Draws, List, ap, arith, encode_utf8_all, false≢true, length, subst, sym, ℕ}
-use Rattle.tabled_draw.proofs.Sent.{draws-bytes}
+use Rattle.tabled_draw.proofs.Common.{[], ◌==◌, ◌∙◌, ◌≡◌, ◌≢◌, List, ap, arith, encode_utf8_all, false≢true, length, sym, ℕ}
+use Rattle.tabled_draw.proofs.Pens.{draws-bytes}
 use Rattle.tabled_draw.proofs.Unmerged.{between-is}
 use Rattle.tabled_draw.specs.Lines.{unmerged_line}
 use Rattle.tabled_draw.proofs.lines.write_known_line.Goals as goal
@@ -9,7 +9,4 @@ returns g c =
     let some : c.args.sheet.now.between.now ≢ [] = λ none. false≢true (sym c.if-is_empty.false ∙ c.is_empty.ensures ∙ ap (λ (xs : List ℕ). length xs == 0) none) in
     let line = unmerged_line c.args.sheet.now.look.style c.args.sheet.now.rows c.args.sheet.now.columns c.args.i c.args.sheet.now.edges.now in
     let bytes : c.args.sheet.now.between.now ≡ encode_utf8_all line = c.args.sheet.now.is_between.is some ∙ ap encode_utf8_all (between-is c.args.sheet.now.look.style c.args.sheet.now.rows c.args.sheet.now.columns c.args.i c.args.sheet.now.edges.now (omega (arith, c.if-i-eq0.false)) (omega (arith, c.if-sheet-i.false))) in
-    record {
-      draws = subst (λ held. Draws (g.W.Write.contents c.args.writer.now) c.args.held.now (g.W.Write.contents c.write.new.writer) held line) (sym c.in_ok-take_outcome.ensures.1)
-          (draws-bytes (g.W.Write.contents c.args.writer.now) (g.W.Write.contents c.write.new.writer) c.args.held.now c.write.new.self c.args.sheet.now.between.now line bytes c.write.ensures);
-    }
+    record { draws = draws-bytes bytes c.in_ok-send_line.ensures }

@@ -1,8 +1,8 @@
-use Rattle.tabled_draw.proofs.Common.{◌+◌, ◌∙◌, ◌≡◌, Draws, ap, ap₂, arith, corner_if, each, is_drawn, level, lit<, lt-ltb, marked, nat_lt, refl, subst, sym, unmerged_arms, unmerged_stretch, false}
+use Rattle.tabled_draw.proofs.Common.{◌+◌, ◌∙◌, ◌≡◌, ap, ap₂, arith, corner_if, each, is_drawn, level, lt-ltb, marked, nat_lt, refl, sym, unmerged_arms, unmerged_stretch, false}
 use Rattle.std.proofs.Common.{le-ltb}
 use Rattle.tabled_draw.proofs.Arms.{same-arms}
 use Rattle.tabled_draw.proofs.Each.{each-more}
-use Rattle.tabled_draw.proofs.Sent.{draws-as, draws-byte, draws-none, draws-then}
+use Rattle.tabled_draw.proofs.Pens.{draws-as, draws-none, draws-then}
 use Rattle.tabled_draw.specs.Lines.{unmerged_line}
 use Rattle.tabled_draw.proofs.lines.write_unmerged_line.Goals as goal
 
@@ -34,9 +34,8 @@ returns g c =
     let end : c.loop-j.j ≡ columns = omega (arith, c.loop-j-test.false, c.loop-j.auto.j-end) in
     let last : c.corner-last.result ≡ corner_if c.args.sheet.now.look.style (unmerged_arms c.args.sheet.now.rows columns c.args.i columns) = c.corner-last.ensures ∙ ap (corner_if c.args.sheet.now.look.style) (same-arms (nat_lt 0 c.args.i) false (nat_lt c.args.i c.args.sheet.now.rows) (nat_lt 0 columns) (nat_lt 0 c.args.i) (nat_lt columns columns) (nat_lt c.args.i c.args.sheet.now.rows) (nat_lt 0 columns) refl (sym (le-ltb columns columns (omega arith))) refl refl) in
     record {
-      draws = subst (λ held. Draws (g.W.Write.contents c.args.writer.now) c.args.held.now (g.W.Write.contents c.push.new.writer) held (unmerged_line c.args.sheet.now.look.style c.args.sheet.now.rows columns c.args.i c.args.sheet.now.edges.now)) (sym c.in_ok-take_outcome.ensures.1)
-          (draws-then (draws-then
+      draws = draws-then (draws-then
           (draws-as (ap (λ n. each n (unmerged_stretch c.args.sheet.now.look.style c.args.sheet.now.rows columns c.args.i c.args.sheet.now.edges.now)) end) c.loop-j.invariant.drawn)
           (draws-as (ap₂ marked c.is_drawn.ensures last) c.write_mark-2.ensures))
-          (draws-byte _ _ _ _ 10 (lit< tt) c.push.ensures));
+          c.in_ok-end_line.ensures;
     }

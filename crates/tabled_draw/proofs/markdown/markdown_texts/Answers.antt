@@ -12,7 +12,7 @@ returns-clause-texts g c =
     let kept = c.in_ok-spans.spans in
     let rows = c.count_rows-rows.ensures.rows in
     let columns = c.count_columns-columns.ensures.columns in
-    IfOk-weaker c.all_texts.result _ _ (λ texts h. texts-apart string_bytes texts.items t c.args.cfg.now kept _ _ rows columns c.in_ok-spans.ensures.fitting c.fitting.ensures.sizes (h kept (c.in_ok-cover.ensures.cover ∙ ap₂ (cover_of kept) rows columns))) c.all_texts.ensures.texts
+    IfOk-weaker c.all_texts.result _ _ (λ texts h. texts-apart string_bytes texts.items t c.args.cfg.now kept _ _ rows columns c.in_ok-spans.ensures.fitting (h kept (c.in_ok-cover.ensures.cover ∙ ap₂ (cover_of kept) rows columns))) c.all_texts.ensures.texts
 
 pub returns-clause-even : goal.returns-clause-even
 returns-clause-even g c = IfOk-weaker c.all_texts.result _ _ (λ texts wide. even-wide _ (map_items texts.items) wide) c.all_texts.ensures.wide

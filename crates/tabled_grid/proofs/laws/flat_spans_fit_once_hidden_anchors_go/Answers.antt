@@ -3,6 +3,6 @@ use Rattle.tabled_grid.proofs.laws.flat_spans_fit_once_hidden_anchors_go.Goals a
 
 pub returns : goal.returns
 returns c = record {
-  flat = λ m rows columns sizes flat within. (fits_dropped m rows columns (midway_flat m rows columns sizes flat within), flat_dropped m flat);
-  narrow = λ m rows columns sizes narrow within. (fits_dropped m rows columns (midway_narrow m rows columns sizes narrow within), narrow_dropped m narrow);
+  flat = λ m rows columns flat within. (fits_dropped m rows columns (midway_flat m rows columns flat within), flat_dropped m flat);
+  narrow = λ m rows columns narrow within. (fits_dropped m rows columns (midway_narrow m rows columns narrow within), narrow_dropped m narrow);
 }

@@ -1,7 +1,7 @@
 //! A store of one vector of cells, row after row.
 
 mod gather;
-pub mod moves;
+mod moves;
 mod pieces;
 mod resizable;
 mod text;

@@ -1,4 +1,4 @@
-//! Work on cells that lie row after row in one list, for `VecRecords` and for a store of one's own.
+//! Work on cells that lie row after row in one list.
 
 ghost use Rattle.std.specs.Prelude.{◌≡◌, ◌+◌, ◌-◌, ◌*◌, ◌<◌, ◌≤◌, ◌++◌, List, IfOk, OnErr, OnOk, length, map, take, drop, vec_len};
 ghost use Rattle.std.specs.List.{remove, swap};
@@ -32,7 +32,7 @@ pub(super) fn join<T: Drop>(
 }
 
 /// Puts `count` blanks after the last cell, in one growth. Refused, it leaves the cells as they were.
-pub fn push_blanks<T: Blank>(
+pub(super) fn push_blanks<T: Blank>(
     alloc: Global,
     cells: &mut Vec<T>,
     count: usize,
@@ -46,7 +46,7 @@ pub fn push_blanks<T: Blank>(
 }
 
 /// Puts `count` blanks before place `at`, in one growth. Refused, it leaves the cells as they were.
-pub fn insert_blanks<T: Blank>(
+pub(super) fn insert_blanks<T: Blank>(
     alloc: Global,
     cells: &mut Vec<T>,
     at: usize,
@@ -62,7 +62,7 @@ pub fn insert_blanks<T: Blank>(
 }
 
 /// Removes the `count` cells from place `at` on.
-pub fn remove_run<T: Drop>(cells: &mut Vec<T>, at: usize, count: usize)
+pub(super) fn remove_run<T: Drop>(cells: &mut Vec<T>, at: usize, count: usize)
     requires { at + count ≤ vec_len cells.old }
     ensures { cells.new.items ≡ take at cells.old.items ++ drop (at + count) cells.old.items }
 {
@@ -99,7 +99,7 @@ fn slide_back<T>(cells: &mut [T], from: usize, count: usize, gap: usize)
 
 /// Makes rows of c cells rows of c + `many`: the blanks behind the last row go into the rows, `many`
 /// into each, before column `j`. It goes over the cells once.
-pub fn spread<T: Blank>(cells: &mut [T], rows: usize, columns: usize, j: usize, many: usize)
+pub(super) fn spread<T: Blank>(cells: &mut [T], rows: usize, columns: usize, j: usize, many: usize)
     requires size { length cells.old ≡ rows * columns + rows * many }
     requires within { j ≤ columns }
     requires blanks { AreBlanks T.is_blank (rows * many) (drop (rows * columns) cells.old) }
@@ -115,7 +115,7 @@ pub fn spread<T: Blank>(cells: &mut [T], rows: usize, columns: usize, j: usize, 
 
 /// Makes rows of c cells rows of c - `count`, without the `count` from column `j` on. What is left out
 /// comes to lie behind the last row. It goes over the cells once.
-pub fn close_up<T>(cells: &mut [T], rows: usize, columns: usize, j: usize, count: usize)
+pub(super) fn close_up<T>(cells: &mut [T], rows: usize, columns: usize, j: usize, count: usize)
     requires size { length cells.old ≡ rows * columns }
     requires within { j + count ≤ columns }
     ensures { take (rows * (columns - count)) cells.new ≡ joined (map (λ (row : List T). take j row ++ drop (j + count) row) (chunks rows columns cells.old)) }
@@ -129,7 +129,7 @@ pub fn close_up<T>(cells: &mut [T], rows: usize, columns: usize, j: usize, count
 }
 
 /// Exchanges two runs of `count` cells.
-pub fn swap_runs<T>(cells: &mut [T], first: usize, second: usize, count: usize)
+pub(super) fn swap_runs<T>(cells: &mut [T], first: usize, second: usize, count: usize)
     requires apart { first + count ≤ second }
     requires within { second + count ≤ length cells.old }
     ensures { cells.new ≡ with_runs_swapped cells.old first second count }
@@ -139,7 +139,7 @@ pub fn swap_runs<T>(cells: &mut [T], first: usize, second: usize, count: usize)
 }
 
 /// Exchanges columns `j` and `k`.
-pub fn swap_each<T>(cells: &mut [T], rows: usize, columns: usize, j: usize, k: usize)
+pub(super) fn swap_each<T>(cells: &mut [T], rows: usize, columns: usize, j: usize, k: usize)
     requires size { length cells.old ≡ rows * columns }
     requires j_within { j < columns }
     requires k_within { k < columns }

@@ -8,11 +8,11 @@ returns-then-byte-at c =
     (position_or_len_is (λ b. eqb b c.args.at) bytes c.loop-i.i 0 (omega (arith, c.loop-i-test.true)) c.loop-i.invariant (λ _. here), c.loop-i-test.true)
 
 pub loop-i-preserved : goal.loop-i-preserved
-loop-i-preserved c k below = by (eqb_tells k c.loop-i.i)
+loop-i-preserved c k below = here_or_before (eqb_tells k c.loop-i.i)
   where
-    by : ((eqb k c.loop-i.i ≡ true) × (k ≡ c.loop-i.i)) ⊎ ((eqb k c.loop-i.i ≡ false) × (k ≢ c.loop-i.i)) → eqb (get_or c.args.bytes.now k 0) c.args.at ≡ false
-    by (inl (_, same)) = rw same (grind (arith, nat_tests, c.if-byte-at.false))
-    by (inr (_, other)) = c.loop-i.invariant k (omega (arith, below, other))
+    here_or_before : ((eqb k c.loop-i.i ≡ true) × (k ≡ c.loop-i.i)) ⊎ ((eqb k c.loop-i.i ≡ false) × (k ≢ c.loop-i.i)) → eqb (get_or c.args.bytes.now k 0) c.args.at ≡ false
+    here_or_before (inl (_, same)) = rw same (grind (arith, nat_tests, c.if-byte-at.false))
+    here_or_before (inr (_, other)) = c.loop-i.invariant k (omega (arith, below, other))
 
 pub returns : goal.returns
 returns c =

@@ -1,4 +1,3 @@
-use Rattle.tabled_script.proofs.Common.{◌≤◌}
 use Rattle.std.specs.Prelude.{◌-◌}
 use Rattle.tabled_script.proofs.limits.level.Given as goal
 

@@ -1,4 +1,4 @@
-use Rattle.tabled_script.proofs.Common.{[], ◌≡◌, ◌≤◌, arith, leb-true, refl}
+use Rattle.tabled_script.proofs.Common.{[], arith, leb-true, refl}
 use Rattle.tabled_script.proofs.narrow.narrow.Goals as goal
 
 pub returns-then-before-width-clause-narrowed : goal.returns-then-before-width-clause-narrowed

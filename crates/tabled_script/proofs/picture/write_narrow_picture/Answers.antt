@@ -15,7 +15,7 @@ returns-clause-written g c =
       record {
         texts = texts;
         narrowed = narrowed;
-        narrow = λ fine. all_narrow c.args.width _ narrowed.fits _ (c.lines_take_the_width_of_their_picture.ensures c.args.style c.args.alignments.now texts c.args.spans.now c.in_ok-written.ensures.sizes fine);
+        narrow = λ fine. all_narrow c.args.width _ narrowed.fits _ (c.lines_take_the_width_of_their_picture.ensures c.args.style c.args.alignments.now texts c.args.spans.now fine);
         drawn = refl;
       },
       wrote,

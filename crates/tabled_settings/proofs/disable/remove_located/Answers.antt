@@ -21,5 +21,5 @@ returns-clause-ok g c =
     let moved = (rw (c.in_ok-fitting.ensures.rows, c.in_ok-fitting.ensures.columns) at c.carry_along.ensures.carried) ∙ ap (λ (places : Places). carried places c.count_rows-rows.result c.count_columns-columns.result c.args.cfg.now) c.in_ok-left.ensures in record {
       found = m.0;
       located = m.1;
-      rearranged = (removed_done _ _ _ _ told _ (rw c.deref-3.ensures.value at c.remove-2.ensures.kept), removed_carried _ _ _ _ told _ _ _ _ c.count_rows-rows.ensures.rows c.count_columns-columns.ensures.columns (rw c.deref-2.ensures.value at moved));
+      rearranged = (removed_done _ _ _ _ told _ (rw c.deref-3.ensures.value at c.remove-2.ensures.kept), removed_carried _ _ _ _ told _ _ c.args.cfg.now _ c.count_rows-rows.ensures.rows c.count_columns-columns.ensures.columns (rw c.deref-2.ensures.value at moved));
     }

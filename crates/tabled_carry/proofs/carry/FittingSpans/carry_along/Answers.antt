@@ -13,7 +13,7 @@ fitting_found g c =
     ]
 
 pub carried_fitting-requires : goal.carried_fitting-requires
-carried_fitting-requires g c = subst (λ (m : SpanMap). Fits m c.self.inside.rows c.self.inside.columns) (sym (fitting_found g (goal.at.carried_fitting-requires g c).Joined-fitting)) (keep_fitting-fits c.self.inside.rows c.self.inside.columns c.args.cfg.now c.anchors.ensures.sizes)
+carried_fitting-requires g c = subst (λ (m : SpanMap). Fits m c.self.inside.rows c.self.inside.columns) (sym (fitting_found g (goal.at.carried_fitting-requires g c).Joined-fitting)) (keep_fitting-fits c.self.inside.rows c.self.inside.columns c.args.cfg.now)
 
-pub returns-clause-carried : goal.returns-clause-carried
-returns-clause-carried g c = rw (← c.self.view_is) (c.carried_fitting.ensures.image ∙ ap (image (g.M.Moves.places c.args.moves.now)) (fitting_found g (goal.at.returns-clause-carried g c).Joined-fitting))
+pub returns : goal.returns
+returns g c = record { carried = rw (← c.self.view_is) (c.carried_fitting.ensures.image ∙ ap (image (g.M.Moves.places c.args.moves.now)) (fitting_found g (goal.at.returns g c).Joined-fitting)) }

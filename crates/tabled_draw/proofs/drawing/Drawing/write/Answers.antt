@@ -1,10 +1,18 @@
+use Rattle.std.proofs.Common.{rules}
 use Rattle.std.specs.Io.KnownBytes.{Appends}
-use Rattle.tabled_draw.proofs.Common.{subst}
-use Rattle.tabled_draw.proofs.Sent.{sent-all}
+use Rattle.tabled_draw.proofs.Common.{◌∙◌, ap, subst}
+use Rattle.tabled_draw.proofs.Pens.{written}
+use Rattle.tabled_held.specs.Sent.{Kept}
 use Rattle.tabled_draw.proofs.drawing.Drawing.write.Goals as goal
 
 pub returns : goal.returns
 returns g c = record {
-  written = subst (λ bs. Appends (g.W.Write.contents c.args.writer.now) (g.W.Write.contents c.send.new.writer) bs) c.self.view_is
-      (sent-all _ (g.W.Write.contents c.write_lines.new.writer) _ c.self.inside.held c.write_lines.new.held c.send.new.self _ c.self.invariant.1.unused c.in_ok-write_lines.ensures c.send.ensures.sends c.send.ensures.empty c.in_ok-take_outcome.ensures.0);
+  written =
+      let contents = g.W.Write.contents in
+      let done = c.in_ok-written.ensures in
+      let name = done.same_writer ∙ c.in_ok-write_lines.ensures.sends.same_writer ∙ c.new-pen.ensures.same_writer in
+      let drawn = subst (λ bs. Appends (contents c.new-pen.result.writer.now) (contents c.in_ok-written.written.now) bs) c.self.view_is
+      (written (ap (λ (held : Kept). held.bytes) c.new-pen.ensures.held ∙ c.self.invariant.1.unused) c.in_ok-write_lines.ensures done) in
+      let bytes = subst (λ w. Appends (contents w) (contents c.in_ok-written.written.now) c.args.self) c.new-pen.ensures.unchanged drawn in
+      search rules;
 }

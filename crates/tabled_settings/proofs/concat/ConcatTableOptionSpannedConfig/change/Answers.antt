@@ -6,6 +6,6 @@ pub returns-clause-ok : goal.returns-clause-ok
 returns-clause-ok g c =
     let grid = g.R.GridStore.grid c.args.records.now in
     let corner = corner_of c.args.self.0 grid.rows grid.columns in
-    let stays : carried (joined_places corner c.args.self.1 grid.rows grid.columns) grid.rows grid.columns c.args.cfg.now ≡ keep_fitting grid.rows grid.columns c.args.cfg.now = carried-stays (joined_places corner c.args.self.1 grid.rows grid.columns) grid.rows grid.columns c.args.cfg.now c.in_ok-fitting.ensures.sizes (joined_keeps corner c.args.self.1 grid.rows grid.columns) in
+    let stays : carried (joined_places corner c.args.self.1 grid.rows grid.columns) grid.rows grid.columns c.args.cfg.now ≡ keep_fitting grid.rows grid.columns c.args.cfg.now = carried-stays (joined_places corner c.args.self.1 grid.rows grid.columns) grid.rows grid.columns c.args.cfg.now (joined_keeps corner c.args.self.1 grid.rows grid.columns) in
     let kept = ap₂ (λ rows columns. keep_fitting rows columns c.args.cfg.now) (c.in_ok-fitting.ensures.rows ∙ c.count_rows-rows.ensures.rows) (c.in_ok-fitting.ensures.columns ∙ c.count_columns-columns.ensures.columns) in
     (search rules, c.stay.ensures ∙ kept ∙ sym stays)

@@ -10,4 +10,4 @@ returns-then-many-eq0 c =
     ]
 
 pub returns : goal.returns
-returns c = c.is_ok.ensures.value ∙ anchor_found c.args.cfg.now c.args.pos c.args.many c.requires c.search.result c.anchors-anchors.ensures.sizes (rw c.anchors-anchors.ensures.anchors at c.search.ensures.within) (rw c.anchors-anchors.ensures.anchors at c.search.ensures.found)
+returns c = c.is_ok.ensures.value ∙ anchor_found c.args.cfg.now c.args.pos c.args.many c.requires c.search.result (rw c.anchors-anchors.ensures.anchors at c.search.ensures.within) (rw c.anchors-anchors.ensures.anchors at c.search.ensures.found)

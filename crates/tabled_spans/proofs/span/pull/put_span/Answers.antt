@@ -12,7 +12,7 @@ pub returns-in-Ok-clause-sizes : goal.returns-in-Ok-clause-sizes
 returns-in-Ok-clause-sizes c =
     let es = c.args.changes.now.items in
     let found = searched es c.args.pos (Ok c.in-Ok.k) c.requires.sorted (rw c.deref.ensures.value at c.in-Ok.ensures.within) (rw c.deref.ensures.value at c.in-Ok.ensures.found) c.index.result.now in
-    let has = size-set c.args.cfg.now es c.args.pos c.index.result.now.size c.requires.sorted (found ∙ ap (λ (e : Rectangle). Some e.size) (sym c.index.ensures)) in
+    let has = size-set c.args.cfg.now es c.args.pos c.index.result.now.size c.requires.sorted c.requires.full (found ∙ ap (λ (e : Rectangle). Some e.size) (sym c.index.ensures)) in
     span-put c.args.cfg.now es _ c.args.axis c.args.pos c.index.result.now.size c.args.many c.requires.some c.requires.sorted has
     (sym (put_found es c.args.pos c.resized-size.result c.in-Ok.k (rectangle c.args.pos c.resized-size.result) c.requires.sorted (rw c.deref.ensures.value at c.in-Ok.ensures.within) ((rw c.deref.ensures.value at c.in-Ok.ensures.found) (rectangle c.args.pos c.resized-size.result))) ∙ ap (λ s. put position_cmp c.args.pos s (pairs es)) c.resized-size.ensures.size)
 

@@ -5,5 +5,5 @@ use Rattle.tabled_grid.proofs.config.spanned_config.SpannedConfig.drop_hidden.Go
 pub invariant_of-self : goal.invariant_of-self
 invariant_of-self c = rw c.drop_hidden.ensures (anchors_dropped c.self.inside.anchors.items c.self.invariant)
 
-pub returns-clause-dropped : goal.returns-clause-dropped
-returns-clause-dropped c = rw (← c.self.view_is, c.drop_hidden.ensures) (sym (dropped_is c.self.inside.anchors.items (map_of c.self.inside.anchors.items) (record { up = c.self.invariant.sorted; is = refl })).is)
+pub returns : goal.returns
+returns c = record { dropped = rw (← c.self.view_is, c.drop_hidden.ensures) (sym (dropped_is c.self.inside.anchors.items (map_of c.self.inside.anchors.items) (record { valid = c.self.invariant; is = refl })).is) }

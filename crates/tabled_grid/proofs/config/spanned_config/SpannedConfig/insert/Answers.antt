@@ -21,4 +21,4 @@ returns-in_err-insert-in-Err-clause-promised c =
     let anchors = c.self.inside.anchors.items in
     let up = c.self.invariant.sorted in
     let missed = searched anchors c.args.pos (Err c.in-Err.i) up (rw c.deref.ensures.value at c.in-Err.ensures.within) (rw c.deref.ensures.value at c.in-Err.ensures.found) in
-    λ some. absurd (false≢true (rw (← c.self.view_is, get-map_of anchors c.args.pos up, missed) at some))
+    λ some. absurd (false≢true (rw (← c.self.view_is, get-map_of anchors c.args.pos c.self.invariant, missed) at some))

@@ -1,0 +1,2 @@
+pub mod ColumnStore
+pub mod TurnedLines

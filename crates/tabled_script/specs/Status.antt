@@ -1,0 +1,30 @@
+-- The statuses that the program ends with.
+use Rattle.std.specs.Prelude.{◌≡◌, ◌⊎◌, ℕ}
+
+-- a table was written
+abbrev pub done : ℕ
+done = 0
+
+-- a fault was told, or nothing for want of width
+abbrev pub faulty : ℕ
+faulty = 2
+
+-- memory ran out, and that was told
+abbrev pub out_of_memory : ℕ
+out_of_memory = 3
+
+-- reading or writing failed
+abbrev pub failed : ℕ
+failed = 4
+
+-- one of the statuses other than that of a table that was written
+abbrev pub IsOtherThanDone : ℕ → Type 0
+IsOtherThanDone status = (status ≡ faulty) ⊎ ((status ≡ out_of_memory) ⊎ (status ≡ failed))
+
+-- one of the program's statuses
+abbrev pub IsStatus : ℕ → Type 0
+IsStatus status = (status ≡ done) ⊎ IsOtherThanDone status
+
+-- a table was written, and P holds of it, or none was, and Q says what else there is
+abbrev pub DoneOrFaulty : ℕ → Type 0 → Type 0 → Type 0
+DoneOrFaulty status P Q = ((status ≡ done) × P) ⊎ ((status ≡ faulty) × Q)
