@@ -12,7 +12,7 @@ use crate::alignment::{Alignment, indent};
 use crate::pen::Pen;
 use std::io::Write;
 use tabled_grid::config::Size;
-use unicode_width::UnicodeWidthStr;
+use tabled_width::columns_of;
 
 /// The character that is shown for one: for a control character another one, which can be seen.
 fn shown(c: char) -> char
@@ -58,7 +58,7 @@ fn are_plain(bytes: &[u8]) -> bool
 fn columns_in(line: &str) -> usize
     ensures { IsLine line.now → result ≡ text_width (shown_line line.now) }
 {
-    line.width()
+    columns_of(line)
 }
 
 /// The size that a text asks: of its rows as many as it has lines, and of its columns those of its widest line.

@@ -1,0 +1,6 @@
+//! How many columns texts take.
+#![tactic(auto)]
+
+mod columns;
+
+pub use columns::columns_of;
