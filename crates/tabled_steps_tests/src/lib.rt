@@ -1,10 +1,6 @@
-//! Tests of settings, of steps, of pictures and of scripts.
+//! Tests of settings and of steps.
 #![tactic(auto)]
 
-#[cfg(test)]
-mod draw;
-#[cfg(test)]
-mod script;
 #[cfg(test)]
 mod settings;
 #[cfg(test)]
