@@ -113,8 +113,8 @@ impl CoverMap {
         }
     }
 
-    /// Follows a map whose size at a place becomes another. That of one cell stands for no anchor. It takes
-    /// no memory.
+    /// Follows a map whose size at a place becomes another. That of one cell stands for no anchor, and so does a new one
+    /// with a side of 0: the size that the map then has is that of one cell. It takes no memory.
     ///
     /// What is left is promised where `old` is the size that the map had.
     pub fn replace(&mut self, pos: Position, old: Size, new: Size)
