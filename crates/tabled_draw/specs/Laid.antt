@@ -2,7 +2,7 @@
 use Rattle.std.specs.Prelude.{◌≡◌, ◌+◌, ◌<◌, ℕ, List, length, slice_index_or}
 use Rattle.tabled_draw.specs.Borders.{line_size}
 use Rattle.tabled_draw.specs.Picture.{left}
-use Rattle.tabled_draw.specs.Sizes.{heights, start_of}
+use Rattle.tabled_draw.specs.Sizes.{heights, start_of, widths}
 use Rattle.tabled_draw.specs.declared.layout.Layout.{Layout}
 use Rattle.tabled_draw.specs.declared.style.Lines.{Lines}
 use Rattle.tabled_draw.specs.declared.style.Style.{Style}
@@ -20,8 +20,9 @@ pub record AreEdgesOf (lines : Lines) (sizes edges : List ℕ) : Type 0 where
   pub long : length edges ≡ length sizes + 1
   pub each : (k : ℕ) → k < length sizes + 1 → slice_index_or edges k 0 ≡ start_of Columns (line_size lines (length sizes)) sizes k
 
--- the edges of a table's columns and the heights of its rows, and room for two rows of owners
+-- the widths and edges of a table's columns and the heights of its rows, and room for two rows of owners
 pub record IsLayout (style : Style) (g : Grid (List ℕ)) (m : SpanMap) (layout : Layout) : Type 0 where
+  pub widths : layout.widths.items ≡ widths style g (rectangles m)
   pub edges : AreEdges style g m layout.edges.items
   pub heights : layout.heights.items ≡ heights style g (rectangles m)
   pub above : length layout.above.items ≡ g.columns + 2

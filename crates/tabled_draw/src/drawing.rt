@@ -9,10 +9,12 @@ ghost use Rattle.tabled_draw.specs.Pens.{Draws};
 ghost use Rattle.tabled_draw.specs.Picture.{drawn};
 ghost use Rattle.tabled_draw.specs.Rests.{AreBegun, AreCutIf};
 ghost use Rattle.tabled_draw.specs.Sheets.{border_on, picture_on, row_on};
+ghost use Rattle.tabled_draw.specs.Width.{picture_width};
 ghost use Rattle.tabled_grid.specs.Grid.{IsInside, map_grid};
 
 use crate::band::Band;
-use crate::borders::is_drawn;
+use crate::borders::{is_drawn, line_size};
+use crate::growth::plus;
 use crate::layout::{Layout, layout_of};
 use crate::lines::{line_between, write_border_line, write_known_line, write_row_line};
 use crate::look::Look;
@@ -97,10 +99,28 @@ where
         requires well { R.is_well_formed records.now }
         ensures drawn { IfOk result (λ drawing. drawing ≡ drawn_in look.now (map_grid R.Cell.text_of (R.grid records.now)) cfg.now) }
     {
+        let (drawing, _) = Drawing::with_width(alloc, records, cfg, look)?;
+        Ok(drawing)
+    }
+
+    /// Lays out a table (`r x c`) as `with_look` does, and says how many columns each line of its picture takes.
+    pub fn with_width(
+        alloc: Global,
+        records: &'a R,
+        cfg: &SpannedConfig,
+        look: &Look<'a>,
+    ) -> Result<(Self, usize), AllocError>
+        requires well { R.is_well_formed records.now }
+        ensures drawn { IfOk result (λ both. both.0 ≡ drawn_in look.now (map_grid R.Cell.text_of (R.grid records.now)) cfg.now) }
+        ensures width { IfOk result (λ both. both.1 ≡ picture_width look.now.style (map_grid R.Cell.text_of (R.grid records.now)) cfg.now) }
+    {
         let rows = records.count_rows();
         let columns = records.count_columns();
         let spans = cfg.fitting(alloc, rows, columns)?;
         let layout = layout_of(alloc, records, &spans, &look.style)?;
+        let before = layout.edges[columns];
+        let last = line_size(look.style.columns, columns, columns);
+        let width = plus(before, last)?;
         let rests = vec![in alloc; ""; columns]?;
         let level = run_of(alloc, look.style.horizontal)?;
         let sheet = Sheet {
@@ -114,7 +134,7 @@ where
         };
         let between = line_between(alloc, &sheet)?;
         let held = Held::new(alloc)?;
-        Ok(Drawing {
+        let drawing = Drawing {
             records,
             spans,
             look: *look,
@@ -123,7 +143,8 @@ where
             level,
             between,
             held,
-        })
+        };
+        Ok((drawing, width))
     }
 
     /// Writes the picture, part by part. It takes no memory and doesn't flush the writer.
@@ -141,6 +162,7 @@ where
             held,
         } = self;
         let Layout {
+            widths: _,
             edges,
             heights,
             above,

@@ -81,8 +81,17 @@ fn grow(
     Ok(())
 }
 
-/// The room in n sizes, with the lines that are drawn between them.
-fn room(sizes: &[usize], axis: Axis, lines: Lines, at: usize, n: usize) -> Result<usize, AllocError>
+/// The room of a text in n of the sizes of rows, or of columns, from one on: with the lines that are drawn between them, and
+/// what stands beside the texts of each. Refused where this comes to more than `usize::MAX`.
+///
+/// Of this project.
+pub fn room(
+    sizes: &[usize],
+    axis: Axis,
+    lines: Lines,
+    at: usize,
+    n: usize,
+) -> Result<usize, AllocError>
     requires some { 1 ≤ n }
     requires end { at + n ≤ length sizes.now }
     ensures { IfOk result (λ much. much ≡ room axis (line_size lines (length sizes.now)) sizes.now at n) }

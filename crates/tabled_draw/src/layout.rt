@@ -23,6 +23,8 @@ use tabled_grid::records::{Axis, CellText, ExactRecords, PeekableRecords, Record
 /// Where columns and rows lie, and room for the owners of the places of two rows.
 #[derive(Drop)]
 pub(crate) struct Layout {
+    /// How wide each column is.
+    pub(crate) widths: Vec<usize>,
     /// Where the left edge of each column stands, and the last edge.
     pub(crate) edges: Vec<usize>,
     /// How high each row is.
@@ -60,8 +62,10 @@ where
     );
     grow_all(alloc, records, spans, style, Axis::Columns, &mut widths)?;
     grow_all(alloc, records, spans, style, Axis::Rows, &mut heights)?;
+    let edges = edges(alloc, style.columns, &widths)?;
     Ok(Layout {
-        edges: edges(alloc, style.columns, &widths)?,
+        widths,
+        edges,
         heights,
         above,
         here,

@@ -21,7 +21,8 @@ returns g c =
     let wide : c.grow_all.new.sizes.items ≡ widths c.args.style.now t (rectangles m) = sizes-is Columns c.args.style.now t m c.raise_all.new.widths.items c.grow_all.new.sizes.items c.raise_all.ensures.widths c.in_ok-grow_all.ensures.grown in
     let high : c.grow_all-2.new.sizes.items ≡ heights c.args.style.now t (rectangles m) = sizes-is Rows c.args.style.now t m c.raise_all.new.heights.items c.grow_all-2.new.sizes.items c.raise_all.ensures.heights c.in_ok-grow_all-2.ensures.grown in
     record {
-      edges = edges-of c.args.style.now t m c.deref.result.now c.in_ok-edges.field-0.items (c.deref.ensures.value ∙ wide) c.in_ok-edges.ensures.long c.in_ok-edges.ensures.each;
+      widths = wide;
+      edges = edges-of c.args.style.now t m c.deref.result.now c.in_ok-edges.edges.items (c.deref.ensures.value ∙ wide) c.in_ok-edges.ensures.long c.in_ok-edges.ensures.each;
       heights = high;
       above = c.raise_all.ensures.above;
       here = c.raise_all.ensures.here;
