@@ -1,0 +1,4 @@
+mod Characters
+pub mod PieceTexts
+pub mod Scanning
+pub mod Spaces

@@ -2,5 +2,9 @@
 #![tactic(auto)]
 
 mod columns;
+mod pieces;
+mod widest;
 
 pub use columns::columns_of;
+pub use pieces::Pieces;
+pub use widest::{widest_piece, widest_word};
