@@ -1,5 +1,5 @@
 -- What is written, part by part.
-use Rattle.tabled_csv.proofs.Common.{AllByRecursion, AreTexts, Err, Ok, OnErr, OnOk, Result, ◌≡◌, ◌<◌, ◌≤◌, ◌+◌, ◌-◌, ◌&&◌, ◌||◌, ◌==◌, ◌++◌, ◌∷◌, ◌∙◌, [], ℕ, zero, suc, List, Bool, false, true, refl, sym, ap, subst, arith, append-nil, append_assoc, begins_with_mark, csv_of, doubled, drop, field_of, get_or, holds_special, is_none, length, length-drop, lines_of, ne_eqb, others_of, quoted, record_of, same_Some, slice_get, Some, take, take_all, take_more, take_rest}
+use Rattle.tabled_csv.proofs.Common.{AllByRecursion, AreTexts, Err, Ok, OnErr, OnOk, Result, ◌≡◌, ◌<◌, ◌≤◌, ◌+◌, ◌-◌, ◌&&◌, ◌||◌, ◌==◌, ◌++◌, ◌∷◌, ◌∙◌, [], ℕ, zero, suc, List, Bool, false, true, refl, sym, ap, subst, arith, append-nil, append_assoc, begins_with_mark, csv_of, doubled, drop, field_of, get_or, holds_special, is_none, length, length-drop, lines_of, ne_eqb, others_of, quoted, record_of, same_Some, slice_get, Some, take, take-append-drop, take_all, take_more, take_rest}
 
 -- ---- between quotes
 
@@ -60,13 +60,17 @@ no-fields s f (x ∷ row) is = absurd (omega arith)
 
 -- ---- rows
 
-lines-append : (s : ℕ) (f : Bool) (xs : List (List (List ℕ))) (y : List (List ℕ)) → lines_of s f (xs ++ (y ∷ [])) ≡ lines_of s f xs ++ record_of s (f && is_none xs) y
-lines-append s true [] y = append-nil (record_of s true y)
-lines-append s false [] y = append-nil (record_of s false y)
-lines-append s true (x ∷ xs) y =
-    ap (λ (l : List ℕ). record_of s true x ++ l) (lines-append s false xs y) ∙ sym (append_assoc (record_of s true x) (lines_of s false xs) (record_of s false y))
-lines-append s false (x ∷ xs) y =
-    ap (λ (l : List ℕ). record_of s false x ++ l) (lines-append s false xs y) ∙ sym (append_assoc (record_of s false x) (lines_of s false xs) (record_of s false y))
+lines-append : (s : ℕ) (f : Bool) (xs ys : List (List (List ℕ))) → lines_of s f (xs ++ ys) ≡ lines_of s f xs ++ lines_of s (f && is_none xs) ys
+lines-append s true [] ys = refl
+lines-append s false [] ys = refl
+lines-append s true (x ∷ xs) ys =
+    ap (λ (l : List ℕ). record_of s true x ++ l) (lines-append s false xs ys) ∙ sym (append_assoc (record_of s true x) (lines_of s false xs) (lines_of s false ys))
+lines-append s false (x ∷ xs) ys =
+    ap (λ (l : List ℕ). record_of s false x ++ l) (lines-append s false xs ys) ∙ sym (append_assoc (record_of s false x) (lines_of s false xs) (lines_of s false ys))
+
+-- the lines of the first rows, and then those of the others
+pub lines-parts : (s : ℕ) (rows : List (List (List ℕ))) (i : ℕ) → csv_of s rows ≡ csv_of s (take i rows) ++ lines_of s (is_none (take i rows)) (drop i rows)
+lines-parts s rows i = ap (csv_of s) (sym (take-append-drop i rows)) ∙ lines-append s true (take i rows) (drop i rows)
 
 none-taken : {A : Type 0} (xs : List A) (i : ℕ) → i < length xs → is_none (take i xs) ≡ (i == 0)
 none-taken [] i inside = absurd (omega arith)
@@ -76,7 +80,7 @@ none-taken (x ∷ xs) (suc i) inside = sym (ne_eqb (suc i) 0 (λ e. omega arith)
 pub lines-more : (s : ℕ) (rows : List (List (List ℕ))) (i : ℕ) → i < length rows → csv_of s (take i rows) ++ record_of s (i == 0) (get_or rows i []) ≡ csv_of s (take (i + 1) rows)
 lines-more s rows i inside =
     ap (λ (f : Bool). csv_of s (take i rows) ++ record_of s f (get_or rows i [])) (sym (none-taken rows i inside))
-    ∙ sym (ap (csv_of s) (take_more rows i [] inside) ∙ lines-append s true (take i rows) (get_or rows i []))
+    ∙ sym (ap (csv_of s) (take_more rows i [] inside) ∙ lines-append s true (take i rows) (get_or rows i [] ∷ []) ∙ ap (λ (l : List ℕ). csv_of s (take i rows) ++ l) (append-nil (record_of s (is_none (take i rows)) (get_or rows i []))))
 
 -- ---- what holds of each text
 

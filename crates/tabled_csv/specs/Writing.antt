@@ -1,7 +1,9 @@
 -- How rows are written.
-use Rattle.std.specs.Prelude.{◌≡◌, IsUtf8, ℕ, Bool, true, false, ◌&&◌, ◌||◌, ◌==◌, List, [], ◌∷◌, ◌++◌, if◌then◌else◌}
+use Rattle.std.specs.Prelude.{◌≡◌, IsUtf8, ℕ, Bool, true, false, ◌&&◌, ◌||◌, ◌==◌, List, [], ◌∷◌, ◌++◌, if◌then◌else◌, Err, Ok, Result}
 use Rattle.std.specs.List.{AllByRecursion, list_any}
 use Rattle.tabled_csv.specs.Grammar.{IsCsv, begins_with_mark, quoted}
+use Rattle.tabled_csv.specs.declared.fault.WriteError.{WriteError}
+use Rattle.tabled_csv.specs.declared.fault.WriteError.TheVariants.{Failed, OutOfMemory}
 
 -- a byte that asks for quotes
 abbrev pub is_special : ℕ → ℕ → Bool
@@ -65,3 +67,9 @@ AreRows rows = HaveFields rows × AllByRecursion AreTexts rows
 pub record IsReadBack (separator : ℕ) (rows : List (List (List ℕ))) : Type 0 where
   pub means : WrittenMeans separator rows
   pub only : (others : List (List (List ℕ))) → IsCsv separator (csv_of separator rows) others → others ≡ rows
+
+-- where the writer failed
+abbrev pub OnFailed : Result (Unit {0}) WriteError → Type 0 → Type 0
+OnFailed (Ok _) P = Unit {0}
+OnFailed (Err OutOfMemory) P = Unit {0}
+OnFailed (Err (Failed error)) P = P

@@ -1,13 +1,13 @@
 //! CSV, written.
 
-ghost use Rattle.std.specs.Prelude.{◌≡◌, ◌<◌, ◌==◌, [], Err, OnOk, drop, length};
+ghost use Rattle.std.specs.Prelude.{◌≡◌, ◌<◌, ◌==◌, [], Err, None, OnErr, OnOk, drop, length};
 ghost use Rattle.std.specs.Io.KnownBytes.{Appends};
 ghost use Rattle.std.specs.List.{AllByRecursion};
 ghost use Rattle.tabled_csv.specs.Grammar.{quoted};
 ghost use Rattle.tabled_csv.specs.Texts.{cells_by, row_at, rows_by};
-ghost use Rattle.tabled_csv.specs.Writing.{AreTexts, HaveFields, WrittenMeans, csv_of, field_of, others_of, record_of};
+ghost use Rattle.tabled_csv.specs.Writing.{AreTexts, HaveFields, OnFailed, WrittenMeans, csv_of, field_of, others_of, record_of};
 ghost use Rattle.tabled_csv.specs.declared.fault.WriteError.TheVariants.{OutOfMemory};
-ghost use Rattle.tabled_held.specs.Sent.{GrowsBy};
+ghost use Rattle.tabled_held.specs.Sent.{GrowsBy, IsCutShort};
 
 use crate::fault::WriteError;
 use crate::quoting::{first_is_quoted, holds_special};
@@ -101,16 +101,18 @@ fn write_rows<W: Write, R: Rows>(
     rows: &R,
 ) -> io::Result<()>
     requires unused { held.old.bytes ≡ [] }
+    requires works { held.old.failure ≡ None }
     requires well { R.is_well rows.now }
     ensures written { OnOk result (Appends (W.contents writer.old) (W.contents writer.new) (csv_of separator (R.texts rows.now))) }
+    ensures failed { OnErr result (IsCutShort (W.contents writer.old) (W.contents writer.new) (csv_of separator (R.texts rows.now))) }
     ensures texts { OnOk result (AllByRecursion AreTexts (R.texts rows.now)) }
 {
     for i in 0..rows.count() {
         write_record(writer, held, separator, rows, i);
-        held.take_outcome()?;
+        held.outcome()?;
     }
     held.send(writer);
-    held.take_outcome()?;
+    held.outcome()?;
     Ok(())
 }
 
@@ -125,6 +127,7 @@ fn write_texts<W: Write, R: Rows>(
     ensures written { OnOk result (Appends (W.contents writer.old) (W.contents writer.new) (csv_of separator (R.texts rows.now))) }
     ensures means { OnOk result (HaveFields (R.texts rows.now) → WrittenMeans separator (R.texts rows.now)) }
     ensures memory { result ≡ Err OutOfMemory → W.contents writer.new ≡ W.contents writer.old }
+    ensures failed { OnFailed result (IsCutShort (W.contents writer.old) (W.contents writer.new) (csv_of separator (R.texts rows.now))) }
 {
     let mut held = Held::new(alloc)?;
     match write_rows(writer, &mut held, separator.byte(), rows) {
@@ -135,7 +138,8 @@ fn write_texts<W: Write, R: Rows>(
 
 /// Writes rows as CSV. A field stands between quotes where it must; a line ends with a line feed.
 ///
-/// All memory is asked for before the first byte is written. It doesn't flush the writer.
+/// All memory is asked for before the first byte is written: refused, the writer got none. Where the writer fails, it
+/// got the first bytes, and no more after them. It doesn't flush the writer.
 ///
 /// Of this project.
 pub fn write<W: Write, T: CellText>(
@@ -148,7 +152,10 @@ pub fn write<W: Write, T: CellText>(
 
     // What is written means these rows, where each has a field.
     ensures means { OnOk result (HaveFields (rows_by T.text_of rows.now) → WrittenMeans separator (rows_by T.text_of rows.now)) }
+
+    // Where memory is refused the writer got nothing, and where it failed the first bytes, and not all.
     ensures memory { result ≡ Err OutOfMemory → W.contents writer.new ≡ W.contents writer.old }
+    ensures failed { OnFailed result (IsCutShort (W.contents writer.old) (W.contents writer.new) (csv_of separator (rows_by T.text_of rows.now))) }
 {
     write_texts(alloc, writer, separator, &rows)
 }
@@ -172,7 +179,10 @@ where
 
     // What is written means the table's rows, where it has a column.
     ensures means { OnOk result (0 < (R.grid records.now).columns → WrittenMeans separator (cells_by R.Cell.text_of (R.grid records.now))) }
+
+    // Where memory is refused the writer got nothing, and where it failed the first bytes, and not all.
     ensures memory { result ≡ Err OutOfMemory → W.contents writer.new ≡ W.contents writer.old }
+    ensures failed { OnFailed result (IsCutShort (W.contents writer.old) (W.contents writer.new) (csv_of separator (cells_by R.Cell.text_of (R.grid records.now)))) }
 {
     write_texts(alloc, writer, separator, &Stored { records })
 }

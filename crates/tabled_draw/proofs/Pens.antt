@@ -38,7 +38,7 @@ module _ {W : Type 0} {contents : W → Option (List ℕ)} where
 
   -- what is drawn where nothing was held is written, once the pen is done
   pub written : {a b : Pen W} {writer : MutBor W} {cs : List ℕ} → a.held.bytes ≡ [] → Draws contents a b cs → IsDone contents b writer → Appends (contents a.writer.now) (contents writer.now) (encode_utf8_all cs)
-  written {a} {b} {writer} {cs} none drawn done = all-sent (contents a.writer.now) (contents writer.now) a.held done.left (encode_utf8_all cs) (sends-as (append-nil (encode_utf8_all cs)) (sends-then drawn.sends.grows done.grows)) none done.empty done.has_worked
+  written {a} {b} {writer} {cs} none drawn done = all-sent (contents a.writer.now) (contents writer.now) a.held done.left (encode_utf8_all cs) (sends-as (append-nil (encode_utf8_all cs)) (sends-then drawn.sends.grows done.grows)) none done.empty done.works
 
   -- ---- bytes and cells that are drawn
 

@@ -1,5 +1,5 @@
 -- What a pen has drawn: what its writer has got, and what is held for it.
-use Rattle.std.specs.Prelude.{◌≡◌, ℕ, List, [], Option, encode_utf8_all, true}
+use Rattle.std.specs.Prelude.{◌≡◌, ℕ, List, [], None, Option, encode_utf8_all}
 use Rattle.std.specs.Borrow.{MutBor}
 use Rattle.tabled_draw.specs.declared.pen.Pen.{Pen}
 use Rattle.tabled_held.specs.Sent.{GrowsBy, Kept}
@@ -19,4 +19,4 @@ pub record IsDone {W : Type 0} (contents : W → Option (List ℕ)) (old : Pen W
   pub left : Kept
   pub grows : GrowsBy (contents old.writer.now) old.held (contents writer.now) left []
   pub empty : left.bytes ≡ []
-  pub has_worked : left.has_worked ≡ true
+  pub works : left.failure ≡ None

@@ -117,7 +117,7 @@ impl<'w, W: Write> Pen<'w, W> {
         ensures { OnOk result (Draws W.contents self.old self.new (10 ∷ [])) }
     {
         self.send_byte(b'\n');
-        self.held.take_outcome()
+        self.held.outcome()
     }
 
     /// Draws a line whose bytes are known with its end, and tells how the writer did so far.
@@ -125,7 +125,7 @@ impl<'w, W: Write> Pen<'w, W> {
         ensures { OnOk result (Sends W.contents self.old self.new bytes.now) }
     {
         self.send(bytes);
-        self.held.take_outcome()
+        self.held.outcome()
     }
 
     /// Sends what is held, and gives the writer back if it never failed.
@@ -134,7 +134,7 @@ impl<'w, W: Write> Pen<'w, W> {
     {
         let Pen { writer, mut held } = self;
         held.send(writer);
-        held.take_outcome()?;
+        held.outcome()?;
         Ok(writer)
     }
 }

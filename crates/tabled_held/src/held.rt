@@ -1,17 +1,20 @@
 //! Bytes that are held until there are many to send.
 
-ghost use Rattle.std.specs.Prelude.{◌≡◌, ◌∷◌, [], IfOk, OnOk, replicate, true};
+ghost use Rattle.std.specs.Prelude.{◌≡◌, ◌∷◌, [], IfOk, MatchResult, None, Some, replicate};
 ghost use Rattle.tabled_held.specs.Sent.{GrowsBy};
 
+use crate::sending::write_all;
 use std::alloc::{AllocError, Global};
 use std::io::{self, Write};
 use std::marker::Model;
-use std::mem;
 
 /// How many bytes are held at most.
 const ROOM: usize = 16_384;
 
-/// Bytes that are held, and how the writer did so far: once it failed, it gets no more. Their room never grows.
+/// Bytes that are held, and how the writer did so far: once it has failed, it gets no more, and its failure is kept.
+/// Their room never grows.
+///
+/// Of this project.
 #[derive(Drop)]
 pub struct Held {
     bytes: Vec<u8>,
@@ -19,18 +22,21 @@ pub struct Held {
 }
 
 impl Model for Held {
-    ghost use Rattle.std.specs.Result.{is_ok};
+    ghost use Rattle.std.specs.Result.{result_err};
     ghost use Rattle.tabled_held.specs.Sent.{Kept};
 
     ghost Value = { Kept };
 
-    ghost view = { λ a. record { bytes = a.bytes.items; has_worked = is_ok a.outcome } };
+    ghost view = { λ a. record { bytes = a.bytes.items; failure = result_err a.outcome } };
 }
 
 impl Held {
-    /// Room where nothing is held.
+    /// Room where nothing is held, for a writer that has not failed.
+    ///
+    /// Of this project.
     pub fn new(alloc: Global) -> Result<Self, AllocError>
         ensures empty { IfOk result (λ held. held.bytes ≡ []) }
+        ensures works { IfOk result (λ held. held.failure ≡ None) }
     {
         let bytes = Vec::with_capacity(alloc, ROOM)?;
         Ok(Held {
@@ -39,25 +45,31 @@ impl Held {
         })
     }
 
-    /// Takes out how the writer did so far. An error that is taken out is no longer kept.
-    pub fn take_outcome(&mut self) -> io::Result<()>
-        ensures { OnOk result ((self.old.has_worked ≡ true) × (self.new ≡ self.old)) }
+    /// How the writer did so far. Once it has failed, each call tells this failure.
+    ///
+    /// Of this project.
+    pub fn outcome(&self) -> io::Result<()>
+        ensures { MatchResult result (λ _. self.now.failure ≡ None) (λ failure. self.now.failure ≡ Some failure) }
     {
-        mem::replace(&mut self.outcome, Ok(()))
+        self.outcome
     }
 
     /// Sends what is held.
+    ///
+    /// Of this project.
     pub fn send<W: Write>(&mut self, writer: &mut W)
         ensures sends { GrowsBy (W.contents writer.old) self.old (W.contents writer.new) self.new [] }
         ensures empty { self.new.bytes ≡ [] }
     {
         if self.outcome.is_ok() {
-            self.outcome = writer.write_all(&self.bytes);
+            self.outcome = write_all(writer, &self.bytes);
         }
         self.bytes.clear();
     }
 
     /// Sends a byte, or holds it.
+    ///
+    /// Of this project.
     #[inline(always)]
     pub fn push<W: Write>(&mut self, writer: &mut W, byte: u8)
         ensures { GrowsBy (W.contents writer.old) self.old (W.contents writer.new) self.new (byte ∷ []) }
@@ -70,6 +82,8 @@ impl Held {
     }
 
     /// Holds bytes, or sends them after what is held, if there is no room.
+    ///
+    /// Of this project.
     #[inline(always)]
     pub fn write<W: Write>(&mut self, writer: &mut W, bytes: &[u8])
         ensures { GrowsBy (W.contents writer.old) self.old (W.contents writer.new) self.new bytes.now }
@@ -89,11 +103,13 @@ impl Held {
     {
         self.send(writer);
         if self.outcome.is_ok() {
-            self.outcome = writer.write_all(bytes);
+            self.outcome = write_all(writer, bytes);
         }
     }
 
     /// Sends a byte many times, or holds it as often.
+    ///
+    /// Of this project.
     #[inline(always)]
     pub fn repeat<W: Write>(&mut self, writer: &mut W, byte: u8, count: usize)
         ensures { GrowsBy (W.contents writer.old) self.old (W.contents writer.new) self.new (replicate count byte) }

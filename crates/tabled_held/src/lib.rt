@@ -2,5 +2,7 @@
 #![tactic(auto)]
 
 mod held;
+mod sending;
 
 pub use held::Held;
+pub use sending::write_all;
