@@ -2,3 +2,5 @@ mod Characters
 pub mod PieceTexts
 pub mod Scanning
 pub mod Spaces
+pub mod WrapBytes
+pub mod WrapLines

@@ -56,3 +56,15 @@ encode-concat (p ∷ ps) = ap (λ xs. encode_utf8_all p ++ xs) (encode-concat ps
 
 pub concat-pieces_in : (text : List ℕ) → IsUtf8 text → concat (pieces_in text) ≡ text
 concat-pieces_in text utf8 = encode-concat (pieces (chars text)) ∙ ap encode_utf8_all (concat-pieces (chars text)) ∙ encodes-chars text utf8
+
+-- the characters of the next piece
+pub next-piece : (text piece : List ℕ) (rest : List (List ℕ)) → IsUtf8 text → pieces_in text ≡ piece ∷ rest → pieces (chars text) ≡ chars piece ∷ map chars rest
+next-piece text piece rest utf8 is = sym (chars-pieces text utf8) ∙ ap (map chars) is
+
+utf8-each : (ps : List (List ℕ)) → AreScalars ps → AllByRecursion IsUtf8 (map encode_utf8_all ps)
+utf8-each [] h = tt
+utf8-each (p ∷ ps) h = ((p, (h.0, refl)), utf8-each ps h.1)
+
+-- each piece is a text
+pub utf8-pieces : (text : List ℕ) → IsUtf8 text → AllByRecursion IsUtf8 (pieces_in text)
+utf8-pieces text utf8 = utf8-each (pieces (chars text)) (scalars-pieces (chars text) (scalars-chars text utf8))

@@ -11,7 +11,7 @@ use Rattle.tabled_width.specs.Columns.{text_width}
 use Rattle.tabled_width.specs.Pieces.{columns_in, is_just, is_space}
 use borrow.Author.Tests.{eq-eqb}
 
-just-is : (k : ℕ) (cs : List ℕ) → is_just k cs ≡ true → cs ≡ k ∷ []
+pub just-is : (k : ℕ) (cs : List ℕ) → is_just k cs ≡ true → cs ≡ k ∷ []
 just-is k [] h = cc
 just-is k (c ∷ []) h = ap (λ x. x ∷ []) (eqb-true c k h)
 just-is k (c ∷ d ∷ cs) h = cc

@@ -4,7 +4,9 @@
 mod columns;
 mod pieces;
 mod widest;
+mod wrapping;
 
 pub use columns::columns_of;
 pub use pieces::Pieces;
 pub use widest::{widest_piece, widest_word};
+pub use wrapping::wrap;

@@ -52,7 +52,7 @@ pub(crate) fn is_blank(piece: &str) -> bool
     piece == " "
 }
 
-fn is_space(piece: &str) -> bool
+pub(crate) fn is_space(piece: &str) -> bool
     ensures { result ≡ is_space (chars piece.now) }
 {
     is_blank(piece) || is_newline(piece)
