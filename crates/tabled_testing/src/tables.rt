@@ -82,7 +82,7 @@ pub fn push_word(words: &mut String, word: &str) -> Result<(), AllocError> {
     words.push_str(word)
 }
 
-/// Spells a table.
+/// Spells a table. Columns of a table without rows, which no store has, would be spelled by their number.
 pub fn spelled<R>(alloc: Global, records: &R) -> Result<String, AllocError>
 where
     R: Records + ExactRecords + PeekableRecords,
@@ -98,6 +98,9 @@ where
             push_word(&mut words, if text.is_empty() { "_" } else { text })?;
         }
         push_word(&mut words, "/")?;
+    }
+    if rows == 0 && columns > 0 {
+        words = format!(in alloc; "0x{columns}")?;
     }
     Ok(words)
 }

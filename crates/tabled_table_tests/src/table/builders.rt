@@ -3,7 +3,9 @@
 use super::call::{Call, builder, builds, holds, texts};
 use std::alloc::{AllocError, Global};
 use std::test::Fail;
+use tabled_grid::config::Position;
 use tabled_grid::records::Text;
+use tabled_table::Table;
 use tabled_table::builder::Builder;
 
 /// Records padded with `-`.
@@ -173,11 +175,34 @@ fn makes_builders(rt: HostRuntime) {
     assert!(rt; holds(alloc, Ok(Builder::from_vec(alloc, Vec::new(alloc))), 0, ""));
 }
 
+/// Two languages, whose designers have names with blanks.
+fn languages(alloc: Global) -> Result<Table, AllocError> {
+    let mut builder = Builder::new(alloc);
+    for record in ["C|Dennis Ritchie|1972", "Go|Rob Pike|2009"] {
+        let texts: Vec<String> = record
+            .split('|')
+            .map(|text| String::from_str(alloc, text))
+            .try_collect(alloc)?;
+        builder.push_record(alloc, texts)?;
+    }
+    builder.build(alloc)
+}
+
 #[test]
 fn builds_tables(rt: HostRuntime) -> Result<(), Fail> {
     let alloc = rt.alloc();
-    let rows = "C Dennis_Ritchie 1972 / Go Rob_Pike 2009 /";
-    assert!(rt; builds(alloc, builder(alloc, rows)?.build(alloc), 3, rows));
+    let table = languages(alloc)?;
+    assert_eq!(rt; table.shape(), (2, 3));
+    assert!(rt; table.get_config().anchors().is_empty());
+    for &(col, first, second) in &[
+        (0, "C", "Go"),
+        (1, "Dennis Ritchie", "Rob Pike"),
+        (2, "1972", "2009"),
+    ] {
+        let records = table.get_records();
+        assert_eq!(rt; records.get(Position::new(0, col)).as_str(), first);
+        assert_eq!(rt; records.get(Position::new(1, col)).as_str(), second);
+    }
     assert!(rt;
         builds(
             alloc,
