@@ -3,4 +3,5 @@ pub mod PieceTexts
 pub mod Scanning
 pub mod Spaces
 pub mod WrapBytes
+pub mod WrapFits
 pub mod WrapLines

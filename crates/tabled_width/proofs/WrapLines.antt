@@ -23,11 +23,11 @@ abbrev pub other_parts : {A : Type 0} → List (List A) → List (List A)
 other_parts [] = []
 other_parts (part ∷ parts) = parts
 
-first_onto : {A : Type 0} (x : A) (parts : List (List A)) → first_part (onto_first x parts) ≡ x ∷ first_part parts
+pub first_onto : {A : Type 0} (x : A) (parts : List (List A)) → first_part (onto_first x parts) ≡ x ∷ first_part parts
 first_onto x [] = refl
 first_onto x (part ∷ parts) = refl
 
-others_onto : {A : Type 0} (x : A) (parts : List (List A)) → other_parts (onto_first x parts) ≡ other_parts parts
+pub others_onto : {A : Type 0} (x : A) (parts : List (List A)) → other_parts (onto_first x parts) ≡ other_parts parts
 others_onto x [] = refl
 others_onto x (part ∷ parts) = refl
 

@@ -42,5 +42,5 @@ put_from n keeps_words used (p ∷ ps) = put_by (placed n keeps_words used p ps)
 
 -- each line fits, of which the first has some columns already
 abbrev pub all_fit : ℕ → ℕ → List (List ℕ) → Bool
-all_fit n used [] = nat_le used n
-all_fit n used (p ∷ ps) = if is_just 10 p then (nat_le used n && all_fit n 0 ps) else all_fit n (used + text_width p) ps
+all_fit n used [] = true
+all_fit n used (p ∷ ps) = if is_just 10 p then all_fit n 0 ps else (nat_le (used + text_width p) n && all_fit n (used + text_width p) ps)

@@ -9,4 +9,4 @@ mod wrapping;
 pub use columns::columns_of;
 pub use pieces::Pieces;
 pub use widest::{widest_piece, widest_word};
-pub use wrapping::wrap;
+pub use wrapping::{lines_fit, wrap};

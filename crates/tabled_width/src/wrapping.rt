@@ -40,6 +40,27 @@ pub fn wrap(alloc: Global, text: &str, width: usize, keep_words: bool) -> Result
     Ok(out)
 }
 
+/// Says whether no line of a text has more than n columns, so that wrapping leaves it as it is.
+///
+/// Of this project.
+pub fn lines_fit(text: &str, width: usize) -> bool
+    ensures { result ≡ all_lines_fit width (chars text.now) }
+{
+    let mut used = 0;
+    for piece in Pieces::new(text) {
+        if is_newline(piece) {
+            used = 0;
+            continue;
+        }
+        let columns = columns_of(piece);
+        if columns > width - used {
+            return false;
+        }
+        used += columns;
+    }
+    true
+}
+
 /// What is put for a piece.
 #[derive(Clone, Copy)]
 struct Placed {
