@@ -1,5 +1,5 @@
 -- Tables whose texts differ only where merged cells hide them have one picture.
-use Rattle.tabled_draw.proofs.Common.{Alignment, Columns, Grid, In, List, Member, None, Option, Position, Rectangle, Rows, Some, SpanMap, Style, [], across, aligned, alignment_in, ap, ap₂, are_none, arith, arms, asks, border, border_line, by_number, cases_Bool, column_between, cond, cond-false, count_along, differ, each, edge_between, encode_utf8_all, rectangles, eqb, false, false_from_ne_true, false≢true, fitting, fold, get_or, grown_for, grown_sizes, heights, holds, holds-true, in_order, inl, inr, is_hidden_in, largest, line_of, line_size, lines_around, lines_in, lines_of_row, lines_shown, mark, not, own, own_sizes, owner_in, picture, picture_bytes, picture_line, place, place_in, refl, replicate, room, same_place, same_place-self, same_place-true, shows, shows_in, start_of, subst, sym, text_of_cell, top, true, widths, with_newlines, ℕ, ◌&&◌, ◌++◌, ◌+◌, ◌-◌, ◌<◌, ◌==◌, ◌||◌, ◌∙◌, ◌∷◌, ◌≡◌, ◌⊎◌}
+use Rattle.tabled_draw.proofs.Common.{Alignment, Columns, Grid, In, List, Member, None, Option, Position, Rectangle, Rows, Some, SpanMap, Style, [], across, aligned, alignment_in, ap, ap₂, are_none, arith, arms, asks, border, border_line, by_number, cases_Bool, column_between, cond, cond-false, count_along, differ, each, edge_between, encode_utf8_all, rectangles, eqb, false, false_from_ne_true, false≢true, fitting, fold, get_or, grown_for, grown_sizes, heights, holds, holds-true, in_order, inl, inr, is_hidden_in, largest, least, line_of, line_size, lines_around, lines_in, lines_of_row, lines_shown, mark, not, own, own_sizes, owner_in, picture, picture_bytes, picture_line, place, place_in, refl, replicate, room, same_place, same_place-self, same_place-true, shows, shows_in, start_of, subst, sym, text_of_cell, top, true, widths, with_newlines, ℕ, ◌&&◌, ◌++◌, ◌+◌, ◌-◌, ◌<◌, ◌==◌, ◌||◌, ◌∙◌, ◌∷◌, ◌≡◌, ◌⊎◌}
 use Rattle.std.proofs.lemmas.Bool.{and_parts}
 use Rattle.tabled_draw.proofs.Each.{each-same}
 use Rattle.tabled_draw.proofs.Fitting.{kept-well}
@@ -63,10 +63,10 @@ module _ (style : Style) (aligns : List Alignment) (g h : Grid (List ℕ)) (es :
 
   own_sizes-alike : (axis : Axis) → own_sizes axis g es ≡ own_sizes axis h es
   own_sizes-alike axis =
-      let of_line : Grid (List ℕ) → ℕ → List ℕ = λ t k. largest (count_along (across axis) t) (λ i. own axis t es (place_in axis k i)) ∷ [] in
+      let of_line : Grid (List ℕ) → ℕ → List ℕ = λ t k. largest (least axis) (count_along (across axis) t) (λ i. own axis t es (place_in axis k i)) ∷ [] in
       each-same (of_line g) (of_line h) (count_along axis g) (λ k less. ap (λ n. n ∷ [])
-      (largest-same (λ i. own axis g es (place_in axis k i)) (λ i. own axis h es (place_in axis k i)) (count_along (across axis) g) (λ i within. (let inside = place-within axis g k i less within in own-alike axis (place_in axis k i) inside.0 inside.1))
-      ∙ ap (λ n. largest n (λ i. own axis h es (place_in axis k i))) (count-alike (across axis))))
+      (largest-same (least axis) (λ i. own axis g es (place_in axis k i)) (λ i. own axis h es (place_in axis k i)) (count_along (across axis) g) (λ i within. (let inside = place-within axis g k i less within in own-alike axis (place_in axis k i) inside.0 inside.1))
+      ∙ ap (λ n. largest (least axis) n (λ i. own axis h es (place_in axis k i))) (count-alike (across axis))))
       ∙ ap (λ n. each n (of_line h)) (count-alike axis)
 
   grown-alike : (axis : Axis) (s : List ℕ) (e : Rectangle) → Member e es → grown_for axis style g s e ≡ grown_for axis style h s e

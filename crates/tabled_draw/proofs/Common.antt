@@ -22,7 +22,7 @@ pub use Rattle.tabled_draw.specs.Owners.{owner_in}
 pub use Rattle.tabled_draw.specs.Pens.{Draws, IsDone, Sends}
 pub use Rattle.tabled_draw.specs.Picture.{border_line, column_between, edge_between, left, lines_of_row, picture, picture_bytes, picture_line, shows, shows_in, top, with_newlines}
 pub use Rattle.tabled_draw.specs.Rests.{IsCutAt, border_of_rests, bytes_in, line_of_rests}
-pub use Rattle.tabled_draw.specs.Sizes.{asks, grown_for, grown_sizes, heights, in_order, own, own_sizes, pad, room, share, start_of, text_of_cell, widths}
+pub use Rattle.tabled_draw.specs.Sizes.{asks, grown_for, grown_sizes, heights, in_order, least, own, own_sizes, pad, room, share, start_of, text_of_cell, widths}
 pub use Rattle.tabled_draw.specs.Standing.{IsSeen, ShowsTexts, StandBetween, StandsAt, StandsFramed, StandsIn, indent_of, inner_height, inner_left, inner_line, inner_top, inner_width, is_amid, is_joined_above, is_joined_around, is_joined_beside, meeting, text_line}
 pub use Rattle.tabled_draw.specs.Texts.{lines_shown, shown_character, shown_line, text_width, widest}
 pub use Rattle.tabled_draw.specs.declared.alignment.Alignment.{Alignment}

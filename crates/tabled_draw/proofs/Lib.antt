@@ -22,5 +22,6 @@ pub mod Shares
 pub mod Shown
 pub mod Singly
 pub mod Sizes
+pub mod StyleLaws
 pub mod Unmerged
 pub mod Widths

@@ -55,10 +55,9 @@ one_line text all = ap (λ (parts : List (List ℕ)). length (map shown_line par
 
 -- ---- heights
 
-largest_one : (n : ℕ) (f : ℕ → ℕ) → ((k : ℕ) → f k ≡ 1) → 0 < n → largest n f ≡ 1
-largest_one zero f is h = absurd (omega (arith, h))
-largest_one (suc zero) f is h = ap (λ x. max 0 x) (is 0)
-largest_one (suc (suc n)) f is h = ap₂ max (largest_one (suc n) f is (omega arith)) (is (suc n))
+largest_one : (n : ℕ) (f : ℕ → ℕ) → ((k : ℕ) → f k ≡ 1) → largest 1 n f ≡ 1
+largest_one zero f is = refl
+largest_one (suc n) f is = ap₂ max (largest_one n f is) (is n)
 
 fold_ones : (xs : List ℕ) (n : ℕ) → AllByRecursion (λ x. x ≡ 1) xs → fold (λ a b. a + b) n xs ≡ n + length xs
 fold_ones [] n all = sym (add-zero n)
@@ -120,7 +119,7 @@ module _ (g : Grid (List ℕ)) (es : List Rectangle) where
   lines-of : (aligns : List Alignment) → IsInside g (place 0 0) → length (picture MARKDOWN aligns (grid_of (rows_apart g es)) []) ≡ g.rows + 1
   lines-of aligns some =
       let inside : IsInside (grid_of (rows_apart g es)) (place 0 0) = record { row = subst (λ n. 0 < n) (sym tall) some.row; col = subst (λ n. 0 < n) (sym (wide some.row)) some.col } in
-      let ones : AllByRecursion (λ x. x ≡ 1) (own_sizes Rows (grid_of (rows_apart g es)) []) = all-each (λ x. x ≡ 1) _ (length (rows_apart g es)) (λ k h. (largest_one (width_of (rows_apart g es)) _ (λ i. own_one (place k i)) inside.col, tt)) in
+      let ones : AllByRecursion (λ x. x ≡ 1) (own_sizes Rows (grid_of (rows_apart g es)) []) = all-each (λ x. x ≡ 1) _ (length (rows_apart g es)) (λ k h. (largest_one (width_of (rows_apart g es)) _ (λ i. own_one (place k i)), tt)) in
       let high : sum (heights MARKDOWN (grid_of (rows_apart g es)) []) ≡ g.rows = ap sum (heights_are (grid_of (rows_apart g es))) ∙ sum_ones (own_sizes Rows (grid_of (rows_apart g es)) []) ones ∙ length-own Rows (grid_of (rows_apart g es)) [] ∙ tall in
       lines-number MARKDOWN aligns (grid_of (rows_apart g es)) [] inside ∙ ap₂ (λ a b. a + b) high (drawn_one (grid_of (rows_apart g es)) inside.row)
 

@@ -1,5 +1,5 @@
 -- Columns are as wide, and rows as high, as what they show asks.
-use Rattle.tabled_draw.proofs.Common.{[], Alignment, Style, border, line_size, pad, ◌+◌, ◌-◌, ◌<◌, ◌∙◌, ◌∷◌, ◌≡◌, ◌≢◌, ◌≤◌, ◌⊎◌, ASCII, AllByRecursion, AreEdges, AreNoLargerThanAsked, Columns, Fits, Grid, List, Measured, Member, Option, Position, Rectangle, Rows, Size, Some, SpanMap, across, and_from, ap, ap₂, arith, asks, by_number, cases_Bool, cases_eq, cases_lt, cell_at, cond, cond-false, cond-true, count_along, each, rectangles, eqb, ext_get_or, false, fold, fold-append, get_or, get_or-replicate, get_or-set_other, get_or-set_same, get_or_past, grown_for, in_order, grown_sizes, inl, inr, is_before, lacking, largest, length, length-replicate, length-set, line_of, lines_in, map_grid, max, most_asked, nat_tests, own, own_sizes, owner_in, place, place_in, raised, refl, replicate, room, same_place, same_place-self, set, share, sized, start_of, subst, suc, sym, take, take_more, takes, text_of_cell, text_width, true, unwrap_or, widths, zero, ℕ}
+use Rattle.tabled_draw.proofs.Common.{[], Alignment, Style, border, line_size, pad, ◌+◌, ◌-◌, ◌<◌, ◌∙◌, ◌∷◌, ◌≡◌, ◌≢◌, ◌≤◌, ◌⊎◌, ASCII, AllByRecursion, AreEdges, AreNoLargerThanAsked, Columns, Fits, Grid, List, Measured, Member, Option, Position, Rectangle, Rows, Size, Some, SpanMap, across, and_from, ap, ap₂, arith, asks, by_number, cases_Bool, cases_eq, cases_lt, cell_at, cond, cond-false, cond-true, count_along, each, rectangles, eqb, ext_get_or, false, fold, fold-append, get_or, get_or-replicate, get_or-set_other, get_or-set_same, get_or_past, grown_for, in_order, grown_sizes, inl, inr, is_before, lacking, largest, least, length, length-replicate, length-set, line_of, lines_in, map_grid, max, most_asked, nat_tests, own, own_sizes, owner_in, place, place_in, raised, refl, replicate, room, same_place, same_place-self, set, share, sized, start_of, subst, suc, sym, take, take_more, takes, text_of_cell, text_width, true, unwrap_or, widths, zero, ℕ}
 use Rattle.tabled_draw.proofs.Each.{get-singles, length-singles}
 use Rattle.tabled_draw.proofs.Order.{all-of, member-ordered, ordered-member}
 use Rattle.tabled_draw.proofs.Widths.{columns-nil}
@@ -11,9 +11,14 @@ use Rattle.tabled_draw.specs.Sizes.{sizes}
 use Rattle.tabled_grid.proofs.PiecePlaces.{place_is}
 use Rattle.tabled_grid.specs.declared.records.axis.Axis.{Axis}
 
-largest-least : (f : ℕ → ℕ) (n i : ℕ) → i < n → f i ≤ largest n f
-largest-least f zero i h = absurd (omega arith)
-largest-least f (suc n) i h = grind (arith, nat_tests, largest-least f n i)
+largest-least : (low : ℕ) (f : ℕ → ℕ) (n i : ℕ) → i < n → f i ≤ largest low n f
+largest-least low f zero i h = absurd (omega arith)
+largest-least low f (suc n) i h = grind (arith, nat_tests, largest-least low f n i)
+
+-- no number is below that which is among them
+pub largest-low : (low : ℕ) (f : ℕ → ℕ) (n : ℕ) → low ≤ largest low n f
+largest-low low f zero = omega arith
+largest-low low f (suc n) = omega (arith, largest-low low f n)
 
 -- ---- by axis
 
@@ -25,7 +30,7 @@ pub lies-along : {A : Type 0} (axis : Axis) (g : Grid A) (e : Rectangle) → Lie
 lies-along axis g e h1 = grind (arith, nat_tests)
 
 own-size : Axis → Grid (List ℕ) → List Rectangle → ℕ → ℕ
-own-size axis g es k = largest (count_along (across axis) g) (λ i. own axis g es (place_in axis k i))
+own-size axis g es k = largest (least axis) (count_along (across axis) g) (λ i. own axis g es (place_in axis k i))
 
 pub length-own : (axis : Axis) (g : Grid (List ℕ)) (es : List Rectangle) → length (own_sizes axis g es) ≡ count_along axis g
 unfolding own-size
@@ -111,12 +116,17 @@ module _ (axis : Axis) (style : Style) (g : Grid (List ℕ)) where
             let j = line_of (across axis) p in
             let there : own axis g es (place_in axis i j) ≡ own axis g es p = ap (own axis g es) (place_is axis p) in
             let f : ℕ → ℕ = λ k. own axis g es (place_in axis i k) in
-            let least : own axis g es (place_in axis i j) ≤ largest (count_along (across axis) g) f = largest-least f (count_along (across axis) g) j (line_below (across axis)) in
+            let reached : own axis g es (place_in axis i j) ≤ largest (least axis) (count_along (across axis) g) f = largest-least (least axis) f (count_along (across axis) g) j (line_below (across axis)) in
             let at : get_or base i 0 ≡ own-size axis g es i = get-singles (own-size axis g es) (count_along axis g) i 0 (line_below axis) in
             let more : get_or base i 0 ≤ get_or (sizes axis style g es) i 0 = larger.each i in
             let e : room axis (border axis style g) (sizes axis style g es) i 1 ≡ get_or (sizes axis style g es) i 0 = room-one axis (border axis style g) (sizes axis style g es) i in
             let enough : asks axis (text_of_cell g p) ≤ room axis (border axis style g) (sizes axis style g es) i 1 = omega arith in
             rw (is, one_line axis) enough
+
+    -- a row or column is as large as is asked of it whatever stands there
+    least-size : (k : ℕ) → k < count_along axis g → least axis ≤ get_or (sizes axis style g es) k 0
+    unfolding sizes own-size
+    least-size k h = omega (arith, largest-low (least axis) (λ i. own axis g es (place_in axis k i)) (count_along (across axis) g), get-singles (own-size axis g es) (count_along axis g) k 0 h, (fold-larger (in_order axis g es) (own_sizes axis g es)).each k)
 
     -- ---- rows and columns are no larger than asked
 
@@ -196,6 +206,9 @@ module _ (axis : Axis) (style : Style) (g : Grid (List ℕ)) where
           fold-low (in_order axis g es) (own_sizes axis g es) (most_asked axis style g es k) (record { long = refl; each = λ i. omega arith }) (lie-among well)
           (λ e m. most-each es own e (from-order e m)) (most-first es own)
 
+pub row-line : (style : Style) (g : Grid (List ℕ)) (es : List Rectangle) (i : ℕ) → i < g.rows → 1 ≤ get_or (sizes Rows style g es) i 0
+row-line style g es i h = least-size Rows style g es i h
+
 pub no-larger : (style : Style) (aligns : List Alignment) (g : Grid (List ℕ)) (es : List Rectangle) → LieWell g.rows g.columns es → AreNoLargerThanAsked style aligns g es
 no-larger style aligns g es well axis k = low-sizes axis style g es k well
 
@@ -254,18 +267,21 @@ is-each f n xs long same = ext_get_or 0 xs (each n (λ j. f j ∷ [])) (long ∙
 
 -- ---- the largest of numbers
 
-pub largest-same : (f h : ℕ → ℕ) (n : ℕ) → ((k : ℕ) → k < n → f k ≡ h k) → largest n f ≡ largest n h
-largest-same f h zero same = refl
-largest-same f h (suc n) same = ap₂ max (largest-same f h n (λ k less. same k (omega (arith, less)))) (same n (omega arith))
+pub largest-same : (low : ℕ) (f h : ℕ → ℕ) (n : ℕ) → ((k : ℕ) → k < n → f k ≡ h k) → largest low n f ≡ largest low n h
+largest-same low f h zero same = refl
+largest-same low f h (suc n) same = ap₂ max (largest-same low f h n (λ k less. same k (omega (arith, less)))) (same n (omega arith))
 
-largest-zero : (n : ℕ) → largest n (λ k. 0) ≡ 0
-largest-zero zero = refl
-largest-zero (suc n) = ap (λ a. max a 0) (largest-zero n)
+largest-zero : (low n : ℕ) → largest low n (λ k. 0) ≡ low
+largest-zero low zero = refl
+largest-zero low (suc n) = ap (λ a. max a 0) (largest-zero low n) ∙ max-zero low
+  where
+    max-zero : (a : ℕ) → max a 0 ≡ a
+    max-zero a = grind (arith, nat_tests)
 
 -- one of the numbers is raised from 0
-largest-raised : (f h : ℕ → ℕ) (n x : ℕ) → x < n → f x ≡ 0 → ((k : ℕ) → k ≢ x → h k ≡ f k) → largest n h ≡ max (largest n f) (h x)
-largest-raised f h zero x less none same = absurd (omega (arith, less))
-largest-raised f h (suc n) x less none same = grind (arith, nat_tests, largest-same, largest-raised f h n x)
+largest-raised : (low : ℕ) (f h : ℕ → ℕ) (n x : ℕ) → x < n → f x ≡ 0 → ((k : ℕ) → k ≢ x → h k ≡ f k) → largest low n h ≡ max (largest low n f) (h x)
+largest-raised low f h zero x less none same = absurd (omega (arith, less))
+largest-raised low f h (suc n) x less none same = grind (arith, nat_tests, largest-same, largest-raised low f h n x)
 
 -- ---- places of lines
 
@@ -285,11 +301,11 @@ module _ (axis : Axis) (g : Grid (List ℕ)) (es : List Rectangle) where
   asked_at : ℕ → ℕ → ℕ → ℕ → ℕ
   asked_at i j k x = cond (is_before i j (place_in axis k x)) (own axis g es (place_in axis k x)) 0
 
-  pub measured-none : (sizes : List ℕ) → sizes ≡ replicate (count_along axis g) 0 → Measured axis g es 0 0 sizes
+  pub measured-none : (sizes : List ℕ) → sizes ≡ replicate (count_along axis g) (least axis) → Measured axis g es 0 0 sizes
   unfolding asked_at
   measured-none sizes is = record {
-    long = ap length is ∙ length-replicate (count_along axis g) 0;
-    each = λ k h. ap (λ (xs : List ℕ). get_or xs k 0) is ∙ get_or-replicate (count_along axis g) k 0 0 h ∙ sym (largest-same (asked_at 0 0 k) (λ x. 0) (count_along (across axis) g) (λ x less. cond-false _ _ _ (before-none (place_in axis k x))) ∙ largest-zero (count_along (across axis) g));
+    long = ap length is ∙ length-replicate (count_along axis g) (least axis);
+    each = λ k h. ap (λ (xs : List ℕ). get_or xs k 0) is ∙ get_or-replicate (count_along axis g) k (least axis) 0 h ∙ sym (largest-same (least axis) (asked_at 0 0 k) (λ x. 0) (count_along (across axis) g) (λ x less. cond-false _ _ _ (before-none (place_in axis k x))) ∙ largest-zero (least axis) (count_along (across axis) g));
   }
 
   pub measured-row : (i j : ℕ) (sizes : List ℕ) → j ≡ g.columns → Measured axis g es i j sizes → Measured axis g es (i + 1) 0 sizes
@@ -299,7 +315,7 @@ module _ (axis : Axis) (g : Grid (List ℕ)) (es : List Rectangle) where
   pub measured-all : (i : ℕ) (sizes : List ℕ) → i ≡ g.rows → Measured axis g es i 0 sizes → sizes ≡ own_sizes axis g es
   unfolding asked_at own-size
   measured-all i sizes e was = is-each (own-size axis g es) (count_along axis g) sizes was.long
-      (λ k h. was.each k h ∙ (largest-same (asked_at i 0 k) (λ x. own axis g es (place_in axis k x)) (count_along (across axis) g) (λ x less. cond-true _ _ _ (before-from i 0 (place_in axis k x) (inl (omega (arith, (place-within axis g k x h less).0, e)))))))
+      (λ k h. was.each k h ∙ (largest-same (least axis) (asked_at i 0 k) (λ x. own axis g es (place_in axis k x)) (count_along (across axis) g) (λ x less. cond-true _ _ _ (before-from i 0 (place_in axis k x) (inl (omega (arith, (place-within axis g k x h less).0, e)))))))
 
   module _ (i j : ℕ) (h : i < g.rows) (w : j < g.columns) (sizes : List ℕ) (was : Measured axis g es i j sizes) where
     pub p : Position
@@ -313,15 +329,15 @@ module _ (axis : Axis) (g : Grid (List ℕ)) (es : List Rectangle) where
     unfolding asked_at p
     other k x apart = grind (arith, nat_tests, cases_before, asked_at, before-next, before-from, after-next, after-from)
 
-    here : largest (count_along (across axis) g) (asked_at i (j + 1) line) ≡ max (largest (count_along (across axis) g) (asked_at i j line)) (own axis g es p)
+    here : largest (least axis) (count_along (across axis) g) (asked_at i (j + 1) line) ≡ max (largest (least axis) (count_along (across axis) g) (asked_at i j line)) (own axis g es p)
     unfolding asked_at p line
     here =
         let x = line_of (across axis) p in
         let at : place_in axis line x ≡ p = place_is axis p in
         let none : asked_at i j line x ≡ 0 = cond-false _ _ _ (ap (is_before i j) at ∙ after-from i j p (inr (refl, omega arith))) in
         let now : asked_at i (j + 1) line x ≡ own axis g es p = cond-true _ _ _ (ap (is_before i (j + 1)) at ∙ here-next i j p refl) ∙ ap (own axis g es) at in
-        largest-raised (asked_at i j line) (asked_at i (j + 1) line) (count_along (across axis) g) x (line-within (across axis) g i j h w) none (λ k apart. other line k (λ e. apart (in-line axis line k p e).1))
-        ∙ ap (max (largest (count_along (across axis) g) (asked_at i j line))) now
+        largest-raised (least axis) (asked_at i j line) (asked_at i (j + 1) line) (count_along (across axis) g) x (line-within (across axis) g i j h w) none (λ k apart. other line k (λ e. apart (in-line axis line k p e).1))
+        ∙ ap (max (largest (least axis) (count_along (across axis) g) (asked_at i j line))) now
 
     pub measured-more : (new : List ℕ) → new ≡ set sizes line (max (get_or sizes line 0) (own axis g es p)) → Measured axis g es i (j + 1) new
     unfolding asked_at p line
@@ -330,15 +346,15 @@ module _ (axis : Axis) (g : Grid (List ℕ)) (es : List Rectangle) where
       each = λ k less. ap (λ (xs : List ℕ). get_or xs k 0) is ∙ by k less (cases_eq k line);
     }
       where
-        apart : (k : ℕ) → k < count_along axis g → k ≢ line → get_or (set sizes line (max (get_or sizes line 0) (own axis g es p))) k 0 ≡ largest (count_along (across axis) g) (asked_at i (j + 1) k)
-        apart k less ne = get_or-set_other sizes line k _ 0 ne ∙ was.each k less ∙ (largest-same (asked_at i j k) (asked_at i (j + 1) k) (count_along (across axis) g) (λ x within. sym (other k x (λ e. ne (in-line axis k x p e).0))))
+        apart : (k : ℕ) → k < count_along axis g → k ≢ line → get_or (set sizes line (max (get_or sizes line 0) (own axis g es p))) k 0 ≡ largest (least axis) (count_along (across axis) g) (asked_at i (j + 1) k)
+        apart k less ne = get_or-set_other sizes line k _ 0 ne ∙ was.each k less ∙ (largest-same (least axis) (asked_at i j k) (asked_at i (j + 1) k) (count_along (across axis) g) (λ x within. sym (other k x (λ e. ne (in-line axis k x p e).0))))
 
-        by : (k : ℕ) → k < count_along axis g → (k ≡ line) ⊎ (k ≢ line) → get_or (set sizes line (max (get_or sizes line 0) (own axis g es p))) k 0 ≡ largest (count_along (across axis) g) (asked_at i (j + 1) k)
+        by : (k : ℕ) → k < count_along axis g → (k ≡ line) ⊎ (k ≢ line) → get_or (set sizes line (max (get_or sizes line 0) (own axis g es p))) k 0 ≡ largest (least axis) (count_along (across axis) g) (asked_at i (j + 1) k)
         by k less (inr ne) = apart k less ne
         by k less (inl same) =
             let within : line < length sizes = omega (arith, was.long, line-within axis g i j h w) in
             ap (λ z. get_or (set sizes line (max (get_or sizes line 0) (own axis g es p))) z 0) same ∙ get_or-set_same sizes line _ 0 within
-            ∙ ap (λ a. max a (own axis g es p)) (was.each line (line-within axis g i j h w)) ∙ sym here ∙ ap (λ z. largest (count_along (across axis) g) (asked_at i (j + 1) z)) (sym same)
+            ∙ ap (λ a. max a (own axis g es p)) (was.each line (line-within axis g i j h w)) ∙ sym here ∙ ap (λ z. largest (least axis) (count_along (across axis) g) (asked_at i (j + 1) z)) (sym same)
 
     -- sizes that are raised to what the text of the place asks, by its owner
     pub measured-raised : (new : List ℕ) (o : Option Rectangle) → o ≡ Some (owner_in es (place i j)) → new ≡ raised axis g sizes o (place i j) → Measured axis g es i (j + 1) new
@@ -348,8 +364,8 @@ module _ (axis : Axis) (g : Grid (List ℕ)) (es : List Rectangle) where
 -- ---- tables that are laid out
 
 module _ (axis : Axis) (g : Grid (List ℕ)) (es : List Rectangle) where
-  pub none-asked : (n : ℕ) (s : List ℕ) → n ≡ count_along axis g → s ≡ replicate n 0 → Measured axis g es 0 0 s
-  none-asked n s same is = measured-none axis g es s (is ∙ ap (λ k. replicate k 0) same)
+  pub none-asked : (n : ℕ) (s : List ℕ) → n ≡ count_along axis g → s ≡ replicate n (least axis) → Measured axis g es 0 0 s
+  none-asked n s same is = measured-none axis g es s (is ∙ ap (λ k. replicate k (least axis)) same)
 
   pub own-long : (s : List ℕ) → s ≡ own_sizes axis g es → length s ≡ count_along axis g
   own-long s is = ap length is ∙ length-own axis g es

@@ -12,10 +12,10 @@ abbrev pub total : ℕ → (ℕ → ℕ) → ℕ
 total zero f = 0
 total (suc n) f = total n f + f n
 
--- the largest number that f gives of those below n, 0 where there are none
-abbrev pub largest : ℕ → (ℕ → ℕ) → ℕ
-largest zero f = 0
-largest (suc n) f = max (largest n f) (f n)
+-- the largest of a number and of what f gives of those below n
+abbrev pub largest : ℕ → ℕ → (ℕ → ℕ) → ℕ
+largest least zero f = least
+largest least (suc n) f = max (largest least n f) (f n)
 
 -- k is one of the n numbers from one on
 abbrev pub is_in_range : ℕ → ℕ → ℕ → Bool

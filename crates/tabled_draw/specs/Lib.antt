@@ -1,6 +1,7 @@
 pub mod Alignments
 pub mod Bands
 pub mod Borders
+pub mod BoxCharacters
 pub mod Drawings
 pub mod Each
 pub mod Laid
@@ -20,6 +21,7 @@ pub mod Runs
 pub mod Sheets
 pub mod Sizes
 pub mod Standing
+pub mod StyleLaws
 pub mod Styles
 pub mod Texts
 pub mod Unmerged

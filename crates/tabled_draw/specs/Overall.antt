@@ -1,5 +1,5 @@
 -- What is said of pictures as a whole.
-use Rattle.std.specs.Prelude.{◌≡◌, ◌+◌, ◌-◌, ◌≤◌, ◌⊎◌, if◌then◌else◌, ℕ, Bool, List, [], length, max, slice_index_or, slice_set}
+use Rattle.std.specs.Prelude.{◌≡◌, ◌+◌, ◌-◌, ◌<◌, ◌≤◌, ◌⊎◌, if◌then◌else◌, ℕ, Bool, List, [], length, max, slice_index_or, slice_set}
 use Rattle.std.specs.List.{AllByRecursion, fold, sum}
 use Rattle.tabled_draw.specs.Marks.{IsFine, IsNoControl}
 use Rattle.tabled_draw.specs.Picture.{drawn_with, left, picture, picture_bytes}
@@ -47,6 +47,10 @@ drawn_lines style g = total (g.rows + 1) (border Rows style g)
 abbrev pub HasAsManyLines : Style → List Alignment → Grid (List ℕ) → List Rectangle → Type 0
 HasAsManyLines style aligns g es = IsInside g (place 0 0) → length (picture style aligns g es) ≡ sum (heights style g es) + drawn_lines style g
 
+-- each row of a table has a line of its own
+abbrev pub HasLineOfEachRow : Style → List Alignment → Grid (List ℕ) → List Rectangle → Type 0
+HasLineOfEachRow style aligns g es = (i : ℕ) → i < g.rows → 1 ≤ slice_index_or (heights style g es) i 0
+
 -- the picture of a table without cells has no line
 abbrev pub HasNoLinesWithoutCells : Style → List Alignment → Grid (List ℕ) → List Rectangle → Type 0
 HasNoLinesWithoutCells style aligns g es = (g.rows ≡ 0) ⊎ (g.columns ≡ 0) → picture style aligns g es ≡ []
@@ -69,8 +73,8 @@ lacking axis style g es k e =
     let others = slice_set (own_sizes axis g es) k 0 in
     asks axis (text_of_cell g e.first) - room axis (border axis style g) others (line_of axis e.first) (lines_in axis e.size)
 
--- the most that is asked of a row or column: by texts that are seen in no other, and beside the others by a merged cell
--- that takes it
+-- the most that is asked of a row or column: by texts that are seen in no other, beside the others by a merged cell that
+-- takes it, and of each row one line
 abbrev pub most_asked : Axis → Style → Grid (List ℕ) → List Rectangle → ℕ → ℕ
 most_asked axis style g es k =
     let own = slice_index_or (own_sizes axis g es) k 0 in

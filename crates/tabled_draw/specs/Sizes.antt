@@ -60,9 +60,15 @@ own_of axis g o p = if same_place o.first p && (lines_in axis o.size == 1) then 
 abbrev pub own : Axis → Grid (List ℕ) → List Rectangle → Position → ℕ
 own axis g es p = own_of axis g (owner_in es p) p
 
--- the most that is asked of each row or column by texts that are seen in no other: nothing where there is no such text
+-- what is asked of each row or column, whatever stands there: a row has a line of its own, also where all that is seen
+-- in it belongs to taller merged cells
+abbrev pub least : Axis → ℕ
+least Rows = 1
+least Columns = 0
+
+-- the most that is asked of each row or column by texts that are seen in no other, and by it at least
 abbrev pub own_sizes : Axis → Grid (List ℕ) → List Rectangle → List ℕ
-own_sizes axis g es = each (count_along axis g) (λ k. largest (count_along (across axis) g) (λ i. own axis g es (place_in axis k i)) ∷ [])
+own_sizes axis g es = each (count_along axis g) (λ k. largest (least axis) (count_along (across axis) g) (λ i. own axis g es (place_in axis k i)) ∷ [])
 
 -- merged cells that take fewer than m rows, or columns, and begin in the first n: those that take the fewest come first,
 -- of these those that begin first

@@ -1,11 +1,13 @@
 //! Laws of pictures. Each is the contract of a function that does nothing.
 
-ghost use Rattle.std.specs.Prelude.{◌≡◌, ◌+◌, ℕ, List, Some, length, map};
+ghost use Rattle.std.specs.Prelude.{◌≡◌, ◌+◌, ℕ, List, Some, codes, length, map};
+ghost use Rattle.tabled_draw.specs.BoxCharacters.{double_lines, round_lines, sharp_lines};
 ghost use Rattle.tabled_draw.specs.Markdown.{escaped, markdown, markdown_lines, read_cell};
 ghost use Rattle.tabled_draw.specs.Marks.{IsFine};
-ghost use Rattle.tabled_draw.specs.Overall.{AreDrawnAlike, AreEquallyWide, AreNoLargerThanAsked, HasAsManyLines, HasNoControls, HasNoLinesWithoutCells, HoldsOfAll, HoldsOfPictures, IsDrawnWhole};
+ghost use Rattle.tabled_draw.specs.Overall.{AreDrawnAlike, AreEquallyWide, AreNoLargerThanAsked, HasAsManyLines, HasLineOfEachRow, HasNoControls, HasNoLinesWithoutCells, HoldsOfAll, HoldsOfPictures, IsDrawnWhole};
 ghost use Rattle.tabled_draw.specs.Picture.{bytes_of_lines};
 ghost use Rattle.tabled_draw.specs.Standing.{AreSeenAlike, GoOn, HasBorders, HasPlainBorders, ShowsAllTexts};
+ghost use Rattle.tabled_draw.specs.StyleLaws.{HasLines, IsBox, IsMadeOf, all_lines, ascii_rounded_corner, dash_or_bar_or, dots_corner, inner_lines, line_of_header, markdown_corner, no_lines, none_left_out, one_arm_left_out, outer_lines, outer_lines_and_header, re_structured_text_corner};
 ghost use Rattle.tabled_draw.specs.Styles.{styles};
 ghost use Rattle.tabled_draw.specs.declared.alignment.Alignment.{Alignment};
 ghost use Rattle.tabled_draw.specs.declared.style.TheConstants.Style.{ASCII, ASCII_ROUNDED, BLANK, DOTS, EMPTY, EXTENDED, MARKDOWN, MODERN, NAMES, PSQL, RE_STRUCTURED_TEXT, ROUNDED, SHARP};
@@ -44,13 +46,51 @@ pub fn styles_are_fine()
     ensures empty { IsFine EMPTY }
 {}
 
+/// Which lines each style draws around rows, and around columns.
+pub fn styles_have_their_lines()
+    ensures ascii { HasLines ASCII all_lines all_lines }
+    ensures modern { HasLines MODERN all_lines all_lines }
+    ensures rounded { HasLines ROUNDED outer_lines_and_header all_lines }
+    ensures sharp { HasLines SHARP outer_lines_and_header all_lines }
+    ensures extended { HasLines EXTENDED all_lines all_lines }
+    ensures psql { HasLines PSQL line_of_header inner_lines }
+    ensures markdown { HasLines MARKDOWN line_of_header all_lines }
+    ensures re_structured_text { HasLines RE_STRUCTURED_TEXT outer_lines_and_header inner_lines }
+    ensures dots { HasLines DOTS all_lines all_lines }
+    ensures ascii_rounded { HasLines ASCII_ROUNDED outer_lines all_lines }
+    ensures blank { HasLines BLANK no_lines inner_lines }
+    ensures empty { HasLines EMPTY no_lines no_lines }
+{}
+
+/// Which characters each style has. Those of boxes have exactly the arms that they are drawn for, by their names in
+/// Unicode. No corner has one arm alone, as `borders_go_on` says; for such a one Unicode has no character of double lines.
+pub fn styles_have_their_characters()
+    ensures ascii { IsMadeOf (codes "-") (codes "|") (λ a. codes "+") ASCII }
+    ensures modern { IsBox sharp_lines none_left_out MODERN }
+    ensures rounded { IsBox round_lines none_left_out ROUNDED }
+    ensures sharp { IsBox sharp_lines none_left_out SHARP }
+    ensures extended { IsBox double_lines one_arm_left_out EXTENDED }
+    ensures psql { IsMadeOf (codes "-") (codes "|") (dash_or_bar_or (codes "+")) PSQL }
+    ensures markdown { IsMadeOf (codes "-") (codes "|") markdown_corner MARKDOWN }
+    ensures re_structured_text { IsMadeOf (codes "=") (codes " ") re_structured_text_corner RE_STRUCTURED_TEXT }
+    ensures dots { IsMadeOf (codes ".") (codes ":") dots_corner DOTS }
+    ensures ascii_rounded { IsMadeOf (codes "-") (codes "|") ascii_rounded_corner ASCII_ROUNDED }
+    ensures blank { IsMadeOf (codes " ") (codes " ") (λ a. codes " ") BLANK }
+    ensures empty { IsMadeOf (codes " ") (codes " ") (λ a. codes " ") EMPTY }
+{}
+
 /// Each name of `Style::NAMES` has a style, and no other text has one.
 pub fn styles_have_names()
     ensures { map (λ name. name.now) NAMES ≡ map (λ style. style.0) styles }
 {}
 
+/// Each row has a line of its own, also where all that is seen in it belongs to taller merged cells.
+pub fn rows_have_lines_of_their_own()
+    ensures { HoldsOfAll HasLineOfEachRow }
+{}
+
 /// No column is wider, and no row higher, than the most that is asked of it: by a text that is seen in no other, or by
-/// the text of a merged cell that takes it, beside the room of the others as their own texts ask.
+/// the text of a merged cell that takes it, beside the room of the others as their own texts ask; or a row's one line.
 pub fn rows_and_columns_are_no_larger_than_asked()
     ensures { HoldsOfPictures AreNoLargerThanAsked }
 {}

@@ -51,7 +51,7 @@ where
     let mut above = owner_row(alloc, columns)?;
     let mut here = owner_row(alloc, columns)?;
     let mut widths = vec![in alloc; 0; columns]?;
-    let mut heights = vec![in alloc; 0; records.count_rows()]?;
+    let mut heights = vec![in alloc; 1; records.count_rows()]?;
     raise_all(
         records,
         spans,

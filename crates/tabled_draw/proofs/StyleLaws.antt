@@ -1,0 +1,69 @@
+-- The lines and the characters of styles: computed, for each set of arms.
+use Rattle.tabled_draw.proofs.Common.{[], ◌&&◌, ◌==◌, ◌||◌, ◌<◌, ◌∙◌, ◌∷◌, ◌≡◌, ◌≤◌, Arms, Bool, List, Style, ap, are_none, arith, cond, cond-false, corner, false, nat_lt, nat_tests, refl, sym, true, ℕ}
+use Rattle.tabled_draw.specs.BoxCharacters.{arms_of, double_lines, horizontal, round_lines, sharp_lines, vertical}
+use Rattle.tabled_draw.specs.StyleLaws.{AreDrawn, HasLines, IsBox, IsMadeOf, all_lines, ascii_rounded_corner, dash_or_bar_or, dots_corner, inner_lines, line_of_header, markdown_corner, no_lines, none_left_out, one_arm_left_out, outer_lines, outer_lines_and_header, re_structured_text_corner}
+use Rattle.tabled_draw.specs.declared.style.Lines.{Lines}
+use Rattle.tabled_draw.specs.declared.style.TheConstants.Lines.{ALL, FRAME, FRAME_AND_HEADER, HEADER, INNER, NONE}
+
+-- ---- lines
+
+pub all-drawn : AreDrawn all_lines ALL
+all-drawn n k h = grind (arith, nat_tests)
+
+pub none-drawn : AreDrawn no_lines NONE
+none-drawn n k h = grind (arith, nat_tests)
+
+pub inner-drawn : AreDrawn inner_lines INNER
+inner-drawn n k h = grind (arith, nat_tests)
+
+pub header-drawn : AreDrawn line_of_header HEADER
+header-drawn n k h = grind (arith, nat_tests)
+
+pub outer-drawn : AreDrawn outer_lines FRAME
+outer-drawn n k h = grind (arith, nat_tests)
+
+pub outer-and-header-drawn : AreDrawn outer_lines_and_header FRAME_AND_HEADER
+outer-and-header-drawn n k h = grind (arith, nat_tests)
+
+-- ---- each set of arms
+
+pub both : {A : Type 0} → (Bool → A) → List A
+both f = f true ∷ f false ∷ []
+
+same-both : {A : Type 0} (f h : Bool → A) → both f ≡ both h → (b : Bool) → f b ≡ h b
+unfolding both
+same-both f h e true = cc
+same-both f h e false = cc
+
+pub with_arms : Bool → Bool → Bool → Bool → Arms
+with_arms u r d l = record { up = u; right = r; down = d; left = l }
+
+-- what a function gives of each set of arms
+pub all_arms : {A : Type 0} → (Arms → A) → List (List (List (List A)))
+all_arms f = both (λ u. both (λ r. both (λ d. both (λ l. f (with_arms u r d l)))))
+
+same-arms : {A : Type 0} (f h : Arms → A) → all_arms f ≡ all_arms h → (a : Arms) → f a ≡ h a
+unfolding all_arms with_arms
+same-arms f h e a =
+    same-both (λ l. f (with_arms a.up a.right a.down l)) (λ l. h (with_arms a.up a.right a.down l))
+    (same-both (λ d. both (λ l. f (with_arms a.up a.right d l))) (λ d. both (λ l. h (with_arms a.up a.right d l)))
+    (same-both (λ r. both (λ d. both (λ l. f (with_arms a.up r d l)))) (λ r. both (λ d. both (λ l. h (with_arms a.up r d l))))
+    (same-both (λ u. both (λ r. both (λ d. both (λ l. f (with_arms u r d l))))) (λ u. both (λ r. both (λ d. both (λ l. h (with_arms u r d l))))) e a.up) a.right) a.down) a.left
+
+-- ---- characters
+
+pub is-box : (characters : List (ℕ × Arms)) (without : Arms → Bool) (style : Style) → arms_of characters style.horizontal ≡ horizontal → arms_of characters style.vertical ≡ vertical
+    → all_arms (λ a. cond (without a) a (arms_of characters (corner style a))) ≡ all_arms (λ a. a) → IsBox characters without style
+is-box characters without style level upright corners = record {
+  level = level;
+  upright = upright;
+  corners = λ a h. sym (cond-false (without a) a (arms_of characters (corner style a)) h) ∙ same-arms (λ a. cond (without a) a (arms_of characters (corner style a))) (λ a. a) corners a;
+}
+
+pub is-made : (level upright : List ℕ) (corner_of : Arms → List ℕ) (style : Style) → style.horizontal ∷ [] ≡ level → style.vertical ∷ [] ≡ upright
+    → all_arms (λ a. cond (are_none a) [] (corner style a ∷ [])) ≡ all_arms (λ a. cond (are_none a) [] (corner_of a)) → IsMadeOf level upright corner_of style
+is-made level upright corner_of style is_level is_upright corners = record {
+  level = is_level;
+  upright = is_upright;
+  corners = λ a h. sym (cond-false (are_none a) [] (corner style a ∷ []) h) ∙ same-arms (λ a. cond (are_none a) [] (corner style a ∷ [])) (λ a. cond (are_none a) [] (corner_of a)) corners a ∙ cond-false (are_none a) [] (corner_of a) h;
+}
