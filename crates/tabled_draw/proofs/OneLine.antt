@@ -2,7 +2,7 @@
 use Rattle.std.proofs.lemmas.List.Elements.{All-from_recursion}
 use Rattle.std.proofs.lemmas.Option.{unwrap_or-slice_get}
 use Rattle.std.specs.Prelude.{codes}
-use Rattle.tabled_draw.proofs.Common.{[], ◌&&◌, ◌+◌, ◌<◌, ◌==◌, ◌||◌, ◌∙◌, ◌∷◌, ◌≡◌, Alignment, AllByRecursion, Bool, Grid, IsInside, List, Position, Rectangle, Rows, Size, SpanMap, add-one, add-zero, all-append, ap, append-nil, ap₂, arith, border, by_number, cond, cond-true, drawn_lines, each, eqb, false, fitting, fold, get_or, grown_for, heights, in_order, is_hidden_in, largest, length, lines_shown, map, max, nat_lt, ne_eqb, nil_from_length, own, own_sizes, picture, picture_bytes, place, position_cmp, rectangles, refl, same_place-self, shown_line, slice_split_none, subst, suc, sum, sym, text_of_cell, total, true, zero, ℕ, rectangles-map_of}
+use Rattle.tabled_draw.proofs.Common.{[], ◌&&◌, ◌+◌, ◌<◌, ◌==◌, ◌||◌, ◌∙◌, ◌∷◌, ◌≡◌, Alignment, AllByRecursion, Bool, Grid, IsInside, List, Position, Rectangle, Rows, SpanMap, add-one, add-zero, all-append, ap, append-nil, ap₂, arith, border, by_number, cond, cond-true, drawn_lines, each, eqb, false, fitting, fold, get_or, grown_for, heights, in_order, is_hidden_in, largest, length, lines_shown, map, max, nat_lt, ne_eqb, own, own_sizes, picture, picture_bytes, place, rectangles, refl, same_place-self, shown_line, slice_split_none, subst, suc, sum, sym, text_of_cell, total, true, zero, ℕ, rectangles-map_of}
 use Rattle.tabled_draw.proofs.Each.{all-each, get-singles, length-singles}
 use Rattle.tabled_draw.proofs.LawPicture.{lines-number}
 use Rattle.tabled_draw.proofs.Sizes.{length-own}

@@ -1,8 +1,7 @@
 -- The lines and the characters of styles: computed, for each set of arms.
-use Rattle.tabled_draw.proofs.Common.{[], ◌&&◌, ◌==◌, ◌||◌, ◌<◌, ◌∙◌, ◌∷◌, ◌≡◌, ◌≤◌, Arms, Bool, List, Style, ap, are_none, arith, cond, cond-false, corner, false, nat_lt, nat_tests, refl, sym, true, ℕ}
-use Rattle.tabled_draw.specs.BoxCharacters.{arms_of, double_lines, horizontal, round_lines, sharp_lines, vertical}
-use Rattle.tabled_draw.specs.StyleLaws.{AreDrawn, HasLines, IsBox, IsMadeOf, all_lines, ascii_rounded_corner, dash_or_bar_or, dots_corner, inner_lines, line_of_header, markdown_corner, no_lines, none_left_out, one_arm_left_out, outer_lines, outer_lines_and_header, re_structured_text_corner}
-use Rattle.tabled_draw.specs.declared.style.Lines.{Lines}
+use Rattle.tabled_draw.proofs.Common.{[], ◌∙◌, ◌∷◌, ◌≡◌, Arms, Bool, List, Style, are_none, arith, cond, cond-false, corner, false, nat_tests, sym, true, ℕ}
+use Rattle.tabled_draw.specs.BoxCharacters.{arms_of, horizontal, vertical}
+use Rattle.tabled_draw.specs.StyleLaws.{AreDrawn, IsBox, IsMadeOf, all_lines, inner_lines, line_of_header, no_lines, outer_lines, outer_lines_and_header}
 use Rattle.tabled_draw.specs.declared.style.TheConstants.Lines.{ALL, FRAME, FRAME_AND_HEADER, HEADER, INNER, NONE}
 
 -- ---- lines
@@ -27,23 +26,21 @@ outer-and-header-drawn n k h = grind (arith, nat_tests)
 
 -- ---- each set of arms
 
-pub both : {A : Type 0} → (Bool → A) → List A
+abbrev pub both : {A : Type 0} → (Bool → A) → List A
 both f = f true ∷ f false ∷ []
 
 same-both : {A : Type 0} (f h : Bool → A) → both f ≡ both h → (b : Bool) → f b ≡ h b
-unfolding both
 same-both f h e true = cc
 same-both f h e false = cc
 
-pub with_arms : Bool → Bool → Bool → Bool → Arms
+abbrev pub with_arms : Bool → Bool → Bool → Bool → Arms
 with_arms u r d l = record { up = u; right = r; down = d; left = l }
 
 -- what a function gives of each set of arms
-pub all_arms : {A : Type 0} → (Arms → A) → List (List (List (List A)))
+abbrev pub all_arms : {A : Type 0} → (Arms → A) → List (List (List (List A)))
 all_arms f = both (λ u. both (λ r. both (λ d. both (λ l. f (with_arms u r d l)))))
 
 same-arms : {A : Type 0} (f h : Arms → A) → all_arms f ≡ all_arms h → (a : Arms) → f a ≡ h a
-unfolding all_arms with_arms
 same-arms f h e a =
     same-both (λ l. f (with_arms a.up a.right a.down l)) (λ l. h (with_arms a.up a.right a.down l))
     (same-both (λ d. both (λ l. f (with_arms a.up a.right d l))) (λ d. both (λ l. h (with_arms a.up a.right d l)))

@@ -1,5 +1,5 @@
 -- What the styles that have a name are made of: which lines they draw, and by which characters.
-use Rattle.std.specs.Prelude.{◌≡◌, ◌<◌, ◌≤◌, ◌==◌, ◌&&◌, ◌||◌, if◌then◌else◌, ℕ, Bool, false, true, List, [], ◌∷◌, codes, nat_lt, not}
+use Rattle.std.specs.Prelude.{◌≡◌, ◌≤◌, ◌==◌, ◌&&◌, ◌||◌, if◌then◌else◌, ℕ, Bool, false, true, List, [], ◌∷◌, codes, nat_lt, not}
 use Rattle.tabled_draw.specs.Borders.{Arms, are_none, are_one, corner, is_drawn}
 use Rattle.tabled_draw.specs.BoxCharacters.{arms_of, horizontal, vertical}
 use Rattle.tabled_draw.specs.declared.style.Lines.{Lines}

@@ -1,9 +1,8 @@
 use Rattle.tabled_draw.proofs.Common.{refl}
-use Rattle.tabled_draw.proofs.StyleLaws.{all_arms, both, is-box, is-made, with_arms}
+use Rattle.tabled_draw.proofs.StyleLaws.{is-box, is-made}
 use Rattle.tabled_draw.proofs.laws.styles_have_their_characters.Goals as goal
 
 pub returns : goal.returns
-unfolding all_arms both with_arms
 returns c = record {
   ascii = is-made _ _ _ _ refl refl refl;
   modern = is-box _ _ _ refl refl refl;
