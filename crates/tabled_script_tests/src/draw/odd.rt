@@ -53,6 +53,31 @@ row\t\tbc\\nd
 |     | d  |
 +-----+----+
 
+row\tEast\tJan
+row\tEast\tJan
+vmerge
+=
++------+-----+
+| East | Jan |
++      +     +
+|      |     |
++------+-----+
+
+row\t0\t1\t2
+row\t1\t2\t3
+row\t4\t5\t6
+rspan\t100\tcell\t0\t0
+rspan\t2\tcell\t1\t1
+rspan\t-1\tcell\t2\t2
+=
++---+---+---+
+| 0 | 1 | 2 |
++   +---+---+
+|   | 2 | 6 |
++   +   +   +
+|   |   |   |
++---+---+---+
+
 row\tA title above
 row\t1\t2
 span\t0\t0\t1\t2
@@ -121,7 +146,9 @@ row\tc\td
 span\t0\t0\t2\t2
 =
 +--+--+
-+ a   +
+| a   |
++     +
+|     |
 +--+--+
 
 row\tx

@@ -190,19 +190,6 @@ cspan\t1000\tcell\t2\t0
 | 4         |
 +---+---+---+
 
-row\t0\t1\t2
-row\t1\t2\t3
-row\t4\t5\t6
-rspan\t100\tcell\t0\t0
-rspan\t2\tcell\t1\t1
-rspan\t-1\tcell\t2\t2
-=
-+---+---+---+
-| 0 | 1 | 2 |
-+   +---+---+
-+   + 2 + 6 +
-+---+---+---+
-
 row\ta\tb\tc\td\te\tf\tg\th\ti\tj\tk\tl\tm\tn\to\tp\tq\tr\ts\tt\tu\tv\tw\tx\ty\tz
 split\tcolumn\t4\tzip\tclean
 =
