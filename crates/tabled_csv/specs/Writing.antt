@@ -1,6 +1,9 @@
 -- How rows are written.
 use Rattle.std.specs.Prelude.{◌≡◌, IsUtf8, ℕ, Bool, true, false, ◌&&◌, ◌||◌, ◌==◌, List, [], ◌∷◌, ◌++◌, if◌then◌else◌, Err, Ok, Result}
 use Rattle.std.specs.List.{AllByRecursion, list_any}
+use Rattle.std.specs.IoError.{error_kind}
+use Rattle.std.specs.declared.io.Error.{Error}
+use Rattle.std.specs.declared.io.ErrorKind.TheVariants as ErrorKind
 use Rattle.tabled_csv.specs.Grammar.{IsCsv, begins_with_mark, quoted}
 use Rattle.tabled_csv.specs.declared.fault.WriteError.{WriteError}
 use Rattle.tabled_csv.specs.declared.fault.WriteError.TheVariants.{Failed, OutOfMemory}
@@ -73,3 +76,8 @@ abbrev pub OnFailed : Result (Unit {0}) WriteError → Type 0 → Type 0
 OnFailed (Ok _) P = Unit {0}
 OnFailed (Err OutOfMemory) P = Unit {0}
 OnFailed (Err (Failed error)) P = P
+
+-- an error of a program tells why rows were not written: that memory was refused, or the writer's own
+abbrev pub IsToldBy : WriteError → Error → Type 0
+IsToldBy OutOfMemory told = error_kind told ≡ ErrorKind.OutOfMemory
+IsToldBy (Failed error) told = told ≡ error

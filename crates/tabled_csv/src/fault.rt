@@ -18,6 +18,11 @@ pub enum Fault {
 }
 
 impl fmt::Display for Fault {
+    ghost use Rattle.std.specs.Prelude.{Some};
+    ghost use Rattle.tabled_csv.specs.Faults.{message_of};
+
+    ghost output = { λ fault. Some (message_of fault) };
+
     fn fmt<W: fmt::Write>(&self, f: &mut fmt::Formatter<W>) -> fmt::Result {
         match self {
             Fault::UnclosedQuote => write!(f, "a quote is not closed"),
@@ -33,13 +38,18 @@ impl fmt::Display for Fault {
 #[derive(Clone, Copy, Debug, PartialEq, Eq)]
 pub enum ReadError {
     /// They are no CSV: the line, counted from 1, where this shows first, and what is wrong there. An unclosed quote
-    /// shows in its own line.
+    /// shows in its own line, and bytes that aren't UTF-8 in the line of the first of them.
     Faulty { line: usize, fault: Fault },
     /// Memory was refused.
     OutOfMemory,
 }
 
 impl fmt::Display for ReadError {
+    ghost use Rattle.std.specs.Prelude.{Some};
+    ghost use Rattle.tabled_csv.specs.Faults.{text_of_error};
+
+    ghost output = { λ error. Some (text_of_error error) };
+
     fn fmt<W: fmt::Write>(&self, f: &mut fmt::Formatter<W>) -> fmt::Result {
         match self {
             ReadError::Faulty { line, fault } => write!(f, "line {line}: {fault}"),
@@ -68,7 +78,7 @@ impl From<AllocError> for ReadError {
 pub enum WriteError {
     /// Memory was refused, and nothing was written.
     OutOfMemory,
-    /// The writer failed.
+    /// The writer failed, and got no more.
     Failed(io::Error),
 }
 
@@ -84,6 +94,10 @@ impl From<AllocError> for WriteError {
 }
 
 impl From<WriteError> for io::Error {
+    ghost use Rattle.tabled_csv.specs.Writing.{IsToldBy};
+
+    ghost from_gives = { IsToldBy };
+
     fn from(error: WriteError) -> io::Error {
         match error {
             WriteError::OutOfMemory => io::Error::from(AllocError),

@@ -1,7 +1,8 @@
 //! Fields.
 
-ghost use Rattle.std.specs.Prelude.{◌≡◌, ◌∷◌, false, IsTrue, IsUtf8, MatchResult};
+ghost use Rattle.std.specs.Prelude.{◌≡◌, ◌-◌, ◌∷◌, false, IsTrue, IsUtf8, MatchResult, length};
 ghost use Rattle.std.specs.Bool.{MatchBool};
+ghost use Rattle.std.specs.Str.Lossy.{utf8_valid_len};
 ghost use Rattle.tabled_csv.specs.Grammar.{IsSeparator, begins_with};
 ghost use Rattle.tabled_csv.specs.Fields.{FieldAt, PlainAt};
 ghost use Rattle.tabled_csv.specs.Faults.{FaultAt};
@@ -21,6 +22,17 @@ fn is_utf8(is_text: bool, bytes: &[u8]) -> bool
     ensures { MatchBool result (IsUtf8 bytes.now) (IsUtf8 bytes.now → ⊥) }
 {
     is_text || str::from_utf8(bytes).is_ok()
+}
+
+/// How many bytes are left from the first one on that isn't UTF-8.
+#[inline(never)]
+fn left_behind_text(bytes: &[u8]) -> usize
+    ensures { result ≡ length bytes.now - utf8_valid_len bytes.now }
+{
+    match str::from_utf8(bytes) {
+        Ok(_) => 0,
+        Err(error) => bytes.len() - error.valid_up_to(),
+    }
 }
 
 /// The plain field at the front of bytes that don't begin with a quote, what is behind it, and the bytes after this.
@@ -55,7 +67,7 @@ pub(crate) fn read_field<'a>(
     }
     let (field, stop, after) = plain_field(separator, bytes);
     if !is_utf8(is_text, field) {
-        return Err(Unread::Faulty(Fault::NotUtf8, bytes.len()));
+        return Err(Unread::Faulty(Fault::NotUtf8, left_behind_text(bytes)));
     }
     Ok((unsafe { str::from_utf8_unchecked(field) }, stop, after))
 }
@@ -85,12 +97,12 @@ fn quoted_field<'a>(
     let inner = &behind[..closing.place];
     if closing.has_doubled {
         let Ok(text) = str::from_utf8(spare.undoubled(inner)?) else {
-            return Err(Unread::Faulty(Fault::NotUtf8, bytes.len()));
+            return Err(Unread::Faulty(Fault::NotUtf8, left_behind_text(bytes)));
         };
         return Ok((text, stop, after));
     }
     if !is_utf8(is_text, inner) {
-        return Err(Unread::Faulty(Fault::NotUtf8, bytes.len()));
+        return Err(Unread::Faulty(Fault::NotUtf8, left_behind_text(bytes)));
     }
     Ok((unsafe { str::from_utf8_unchecked(inner) }, stop, after))
 }

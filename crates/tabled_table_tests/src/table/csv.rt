@@ -57,6 +57,8 @@ fn reads(rt: HostRuntime) -> Result<(), Fail> {
     assert_eq!(rt; faulty.as_str(), "line 2: a field is not UTF-8");
     let quoted = shown(rt.alloc(), comma, &[34, 255, 34, 34, 34, 10])?;
     assert_eq!(rt; quoted.as_str(), "line 1: a field is not UTF-8");
+    let below = shown(rt.alloc(), comma, &[34, 34, 34, 10, 255, 10, 34, 10])?;
+    assert_eq!(rt; below.as_str(), "line 2: a field is not UTF-8");
     Ok(())
 }
 

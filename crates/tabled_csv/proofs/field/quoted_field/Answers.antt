@@ -1,4 +1,4 @@
-use Rattle.tabled_csv.proofs.Common.{◌∷◌, ◌+◌, ◌-◌, ◌∙◌, ◌≡◌, IsUtf8, List, drop, length, refl, subst, sym, take, take_rest, ℕ}
+use Rattle.tabled_csv.proofs.Common.{◌∷◌, ◌+◌, ◌-◌, ◌∙◌, ◌≡◌, IsUtf8, List, drop, length, subst, sym, take, take_rest, ℕ}
 use Rattle.tabled_csv.proofs.Fielding.{behind-fault, quoted-form}
 use Rattle.tabled_csv.specs.Fields.{ClosedBy, ClosesAt, FormAt, StopsQuoted}
 use Rattle.tabled_csv.specs.declared.quoted.Closing.{Closing}
@@ -29,7 +29,7 @@ returns-in_default-from_utf8 c =
       after,
       form c.args.separator c.args.bytes.now c.args.behind.now c.in-Some.closing closed stop after c.requires.behind c.in-Some-stop_at.ensures,
       (λ valid. c.in_default-from_utf8.ensures.cases.0 (subst IsUtf8 (sym is) valid)),
-      refl,
+      c.left_behind_text.ensures,
     )
 
 pub is_utf8-requires : goal.is_utf8-requires
@@ -58,7 +58,7 @@ returns-then-not-is_utf8 c =
       after,
       form c.args.separator c.args.bytes.now c.args.behind.now c.in-Some.closing closed stop after c.requires.behind c.in-Some-stop_at.ensures,
       (λ valid. c.if-not-is_utf8.ensures (subst IsUtf8 (sym (closed.same c.if-closing.false)) valid)),
-      refl,
+      c.left_behind_text-then-not-is_utf8.ensures,
     )
 
 pub returns : goal.returns
