@@ -59,7 +59,8 @@ pub use Rattle.tabled_settings.specs.Pieces.{clean_split, cut_rows, has_pieces, 
 pub use Rattle.tabled_settings.specs.Places.{IsTakenOnce, lines_from}
 pub use Rattle.tabled_settings.specs.Rearranged.{Rearranges, Removes, ReversesTable, carried_if, columns_if, count_in, extracted, half_rotated, kept_lines, left_over, limit_end, part, quarter_of, removed, reversed, reversed_index, reverses, rotated, upside_down}
 pub use Rattle.tabled_settings.specs.Rewrites.{AnswersInTurn, Asking, Rewrites, RewritesAt, RewritesBefore, RewritesUntil}
-pub use Rattle.tabled_settings.specs.Wraps.{wrap_writes, wrapped}
+pub use Rattle.tabled_settings.specs.Wraps.{wrap_writes}
+pub use Rattle.tabled_width.specs.Wraps.{wrapped}
 pub use Rattle.tabled_settings.specs.declared.rotate.Rotate.{Rotate}
 pub use Rattle.tabled_settings.specs.declared.rotate.Rotate.TheVariants.{Bottom, Left, Right, Top}
 pub use Rattle.tabled_settings.specs.declared.split.Display.{Display}

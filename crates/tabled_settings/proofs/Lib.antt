@@ -29,8 +29,4 @@ pub mod ThereAndBack
 pub mod TurnedRectangles
 pub mod TurnedTwice
 pub mod Turns
-pub mod WrapBytes
-pub mod WrapFacts
-pub mod WrapLines
-pub mod WrapSteps
 pub mod WritersKeep

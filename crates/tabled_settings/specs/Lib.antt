@@ -10,5 +10,4 @@ pub mod Pieces
 pub mod Places
 pub mod Rearranged
 pub mod Rewrites
-pub mod WrapSteps
 pub mod Wraps

@@ -9,7 +9,6 @@ ghost use Rattle.tabled_settings.specs.declared.rotate.Rotate.TheVariants.{Botto
 ghost use Rattle.tabled_settings.specs.declared.split.Display.TheVariants.{Retain};
 ghost use Rattle.tabled_settings.specs.Charsets.{IsCleanByte, clean_text, with_tabs};
 ghost use Rattle.tabled_settings.specs.Orders.{charset_cmp, reverse_cmp, wrap_cmp};
-ghost use Rattle.tabled_settings.specs.Wraps.{IsWrapped, KeepsWords, wrapped_characters};
 ghost use Rattle.tabled_settings.specs.PiecePlaces.{IsGluedBack, all_pieces, split_places, texts_along};
 ghost use Rattle.tabled_settings.specs.Pieces.{split};
 ghost use Rattle.tabled_grid.specs.Fitting.{Fits};
@@ -232,19 +231,6 @@ where
     R: Records + ExactRecords + Resizable + RecordsMut<String>,
     R::Cell: CellText,
     ensures table { let how = ⟦<Concat as TableOption<R, SpannedConfig, D>>⟧ in FitsAfter (how.does _concat.now) (how.leaves _concat.now) }
-{}
-
-/// A text that is wrapped to one column or more, between words or anywhere, has no line of more columns; what is
-/// neither a blank nor a newline stands there whole and in order, each character fitted; and it is wrapped line by
-/// line, where a line that fits is as it was.
-pub fn wrapped_texts_are_narrow_and_whole()
-    ensures wrapped { (width : ℕ) (keeps_words : Bool) (text : List ℕ) → 1 ≤ width → IsWrapped width text (wrapped_characters width keeps_words text) }
-{}
-
-/// A text that is wrapped between words has the words of the text in order: each that fits in a line as it was,
-/// and the others in parts.
-pub fn wraps_keep_words()
-    ensures words { (width : ℕ) (text : List ℕ) → KeepsWords width text (wrapped_characters width true text) }
 {}
 
 /// Wraps are ordered by their width, and then by whether they keep words, those that don't first.

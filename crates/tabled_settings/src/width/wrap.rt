@@ -1,13 +1,11 @@
 //! Lines cut into lines of at most n columns.
 
-ghost use Rattle.std.specs.Prelude.{◌≡◌, ◌+◌, ◌⊎◌, ◌≤◌, ℕ, Bool, [], IfOk, IsOk, OnErr, OnOk, chars, map, nat_le};
-ghost use Rattle.std.specs.String.{string_bytes};
+ghost use Rattle.std.specs.Prelude.{◌≡◌, ℕ, Bool, [], IsOk, OnErr, OnOk};
 ghost use Rattle.tabled_grid.specs.Entity.{inside};
 ghost use Rattle.tabled_grid.specs.declared.config.entity.Entity.TheVariants.{Global};
 ghost use Rattle.tabled_options.specs.Writes.{DoesFirstWrites, DoesWrites, FirstWritten, Written};
-ghost use Rattle.tabled_settings.specs.WrapSteps.{all_fit, begins_word, first_word, placed, placed_in_line};
-ghost use Rattle.tabled_settings.specs.Wraps.{fitted, is_of_word, wrap_writes, wrapped};
-ghost use Rattle.tabled_spans.specs.Widths.{character_columns, columns_in};
+ghost use Rattle.tabled_settings.specs.Wraps.{wrap_writes};
+ghost use Rattle.tabled_width.specs.Wraps.{wrapped};
 ghost use Rattle.std.proofs.Common.{rules};
 
 use crate::rewrite::{Answers, rewrite};
@@ -16,10 +14,13 @@ use std::marker::Model;
 use tabled_grid::config::{Entity, Position};
 use tabled_grid::records::{CellText, ExactRecords, PeekableRecords, Records, RecordsMut};
 use tabled_options::{CellOption, TableOption};
-use unicode_width::UnicodeWidthChar;
+use tabled_width::{lines_fit, wrap};
 
 /// Cuts each line of the texts of cells into lines of at most n columns, anywhere or between words. A contract
 /// sees it as its width, and whether it keeps words.
+///
+/// Columns are those of a picture: characters that take other columns together than apart, as those of an emoji do, are a
+/// piece, which is never cut.
 ///
 /// With a width of 5, and words kept,
 ///
@@ -33,8 +34,9 @@ use unicode_width::UnicodeWidthChar;
 ///                   +-------+
 /// ```
 ///
-/// A character of more columns than the width becomes U+FFFD. A width of 0 leaves no text. The text of lines
-/// that fit stays, without memory. Refused for memory, it leaves the cells that it wrote.
+/// A piece of more columns than the width stands alone in a line. Nothing is lost but blanks at cuts between words; but
+/// a width of 0 leaves no text. The text of lines that fit stays, without memory. Refused for memory, it leaves the
+/// cells that it wrote.
 ///
 /// Ported from `tabled::settings::width::Wrap`.
 #[derive(Debug, Clone, Copy, PartialEq, Eq, PartialOrd, Ord)]
@@ -68,7 +70,7 @@ impl Wrap {
         }
     }
 
-    /// Whether lines are cut between words, parted by blanks, or anywhere. A word that is wider than a line begins
+    /// Whether lines are cut between words, parted by blanks, or between any pieces. A word that is wider than a line begins
     /// one, and is cut. A blank at a cut goes.
     ///
     /// Ported from `tabled::settings::width::Wrap::keep_words`.
@@ -171,154 +173,6 @@ impl Answers for Wrap {
     }
 
     fn answer(&mut self, alloc: Global, _pos: Position, text: &str) -> Result<String, AllocError> {
-        if self.width == 0 {
-            return Ok(String::new(alloc));
-        }
-        wrapped(alloc, text, self.width, self.keep_words)
+        wrap(alloc, text, self.width, self.keep_words)
     }
-}
-
-/// Says whether no line of a text has more than n columns.
-fn lines_fit(text: &str, width: usize) -> bool
-    ensures { result ≡ all_fit width 0 (chars text.now) }
-{
-    let mut used = 0;
-    for c in text.chars() {
-        if c == '\n' {
-            used = 0;
-            continue;
-        }
-        let columns = columns_of(c);
-        if columns > width - used {
-            return false;
-        }
-        used += columns;
-    }
-    true
-}
-
-/// The text, its lines cut into lines of n columns, one or more.
-fn wrapped(alloc: Global, text: &str, width: usize, keep_words: bool) -> Result<String, AllocError>
-    requires { 1 ≤ width }
-    ensures { IfOk result (λ new. string_bytes new ≡ wrapped (width, keep_words) text.now) }
-{
-    let cuts = text.len() / width;
-    let mut out = String::with_capacity(alloc, text.len().saturating_add(cuts))?;
-    let mut used = 0;
-    let mut rest = text.chars();
-    while let Some(c) = rest.next() {
-        let placed = place(width, keep_words, used, fitted(width, c), rest.as_str());
-        if placed.breaks {
-            out.push('\n')?;
-        }
-        if let Some(c) = placed.character {
-            out.push(c)?;
-        }
-        used = placed.used;
-    }
-    Ok(out)
-}
-
-/// What is put for a character.
-#[derive(Clone, Copy)]
-struct Placed {
-    /// Whether a newline comes first.
-    breaks: bool,
-    character: Option<char>,
-    /// How many columns the line then has.
-    used: usize,
-}
-
-/// What is put for a character, before others, where its line has some columns already.
-fn place(width: usize, keep_words: bool, used: usize, c: char, rest: &str) -> Placed
-    requires some { 1 ≤ width }
-    requires within { used ≤ width }
-    ensures { result ≡ placed width keep_words used c (map (fitted width) (chars rest.now)) }
-{
-    if c == '\n' {
-        return Placed {
-            breaks: true,
-            character: None,
-            used: 0,
-        };
-    }
-    if keep_words && c == ' ' && !word_fits(width, used, rest) {
-        let begins = begins_word(rest);
-        return Placed {
-            breaks: begins,
-            character: None,
-            used: if begins { 0 } else { used },
-        };
-    }
-    place_in_line(width, used, c)
-}
-
-/// What is put for a character that is put in any case, where its line has some columns already.
-fn place_in_line(width: usize, used: usize, c: char) -> Placed
-    requires { used ≤ width }
-    ensures { result ≡ placed_in_line width used c }
-{
-    let columns = columns_of(c);
-    let breaks = columns > width - used;
-    Placed {
-        breaks,
-        character: Some(c),
-        used: if breaks { columns } else { used + columns },
-    }
-}
-
-/// Says whether a blank and the first word of a text fit behind some columns.
-fn word_fits(width: usize, used: usize, text: &str) -> bool
-    requires { used ≤ width }
-    ensures { result ≡ nat_le (used + 1 + columns_in (first_word (map (fitted width) (chars text.now)))) width }
-{
-    if used == width {
-        return false;
-    }
-    let mut taken = used + 1;
-    for c in text.chars() {
-        let c = fitted(width, c);
-        if !is_of_word(c) {
-            return true;
-        }
-        let columns = columns_of(c);
-        if columns > width - taken {
-            return false;
-        }
-        taken += columns;
-    }
-    true
-}
-
-/// Says whether a text begins with a word.
-fn begins_word(text: &str) -> bool
-    ensures { result ≡ begins_word (chars text.now) }
-{
-    text.chars().next().is_some_and(is_of_word)
-}
-
-/// Says whether a character is neither a blank nor a newline.
-fn is_of_word(c: char) -> bool
-    ensures { result ≡ is_of_word c }
-{
-    c != ' ' && c != '\n'
-}
-
-/// The character, or the replacement character for one that has too many columns.
-fn fitted(width: usize, c: char) -> char
-    ensures { result ≡ fitted width c }
-{
-    if columns_of(c) <= width {
-        c
-    } else {
-        '\u{FFFD}'
-    }
-}
-
-/// The columns that a character takes, 1 where it is a control character.
-fn columns_of(c: char) -> usize
-    ensures value { result ≡ character_columns c }
-    ensures bound { result ≤ 3 }
-{
-    c.width().unwrap_or(1)
 }

@@ -1,5 +1,5 @@
 use Rattle.tabled_settings.proofs.Common.{◌∙◌, ◌≤◌, arith, refl, sym}
-use Rattle.tabled_settings.proofs.WrapFacts.{text-same}
+use Rattle.tabled_width.proofs.WrapFits.{text-same}
 use Rattle.tabled_settings.proofs.width.wrap.WrapAnswers.keeps.Goals as goal
 
 pub returns : goal.returns
