@@ -1,9 +1,9 @@
 -- Anchors that are marked where another holds them, from the last to the first, and what is left of them.
-use Rattle.tabled_grid.proofs.Common.{[], ◌&&◌, ◌++◌, ◌+◌, ◌<◌, ◌||◌, ◌∙◌, ◌∷◌, ◌≡◌, AllByRecursion, AreSorted, Bool, IsSpanSize, List, Position, Rectangle, T, ap, ap₂, arith, common_steps, cond, drop, drop_at, drop_more, dropped, false, false_from_ne_true, filter, get_or, get_or-take, get_or_append_left, holds, inl, inr, is_hidden_in, is_lt, length, length-take, lt-ltb, map, marked, nat_lt, not, position_cmp, rectangle, refl, same_place, sized, subst, suc, sym, take, true, unless_held, ℕ}
+use Rattle.tabled_grid.proofs.Common.{[], ◌&&◌, ◌++◌, ◌+◌, ◌-◌, ◌<◌, ◌||◌, ◌∙◌, ◌∷◌, ◌≡◌, ◌≤◌, AllByRecursion, AreSorted, Bool, IsSpanSize, List, Position, Rectangle, T, ap, ap₂, arith, common_steps, cond, drop, drop_at, drop_more, dropped, false, false_from_ne_true, filter, get_or, get_or-take, get_or_append_left, holds, inl, inr, is_hidden_in, is_lt, length, length-take, lt-ltb, map, marked, nat_lt, not, position_cmp, rectangle, refl, same_place, sized, subst, suc, sym, take, true, unless_held, ℕ}
 use Rattle.tabled_grid.proofs.Geometry.{In}
 use Rattle.tabled_grid.proofs.SortedEntries.{Below, both, halves, less}
 use Rattle.tabled_grid.proofs.SpanMaps.{holds-true, same_place-self}
-use Rattle.tabled_grid.proofs.PassedAnchors.{Earlier, earlier, places_apart}
+use Rattle.tabled_grid.proofs.PassedAnchors.{Earlier, earlier, places_apart, sorted_drop}
 
 -- a mark keeps the place
 place_kept : (by e : Rectangle) → (unless_held by e).first ≡ e.first
@@ -38,6 +38,13 @@ module _ (old : List Rectangle) (i : ℕ) (here : i < length old) where
 
   pub sorted_mark : (d : Rectangle) → ((n : ℕ) → AreSorted (drop n old)) → AreSorted (get_or (marked_from old (i + 1)) i d ∷ drop (i + 1) (marked_from old (i + 1)))
   sorted_mark d up = grind (arith, common_steps, drop_more, both, below_marked, halves, sorted_marked, at_mark, drop_at, front)
+
+-- the next anchor, and the marked ones behind it
+pub sorted_next : (old xs : List Rectangle) (i : ℕ) (d : Rectangle) → xs ≡ marked_from old i → 0 < i → i ≤ length old → AreSorted old → AreSorted (get_or xs (i - 1) d ∷ drop (i - 1 + 1) xs)
+sorted_next old xs i d is some within sorted =
+    let back : i - 1 + 1 ≡ i = omega (arith, some) in
+    let e : xs ≡ marked_from old (i - 1 + 1) = is ∙ ap (marked_from old) (sym back) in
+    subst (λ ys. AreSorted (get_or ys (i - 1) d ∷ drop (i - 1 + 1) ys)) (sym e) (sorted_mark old (i - 1) (omega (arith, some, within)) d (λ n. sorted_drop n old sorted))
 
 -- what has a size is left of the marked
 abbrev pub has_size : Rectangle → Bool

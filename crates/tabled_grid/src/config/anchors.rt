@@ -145,6 +145,7 @@ fn beside(anchors: &[Rectangle], by: Rectangle, pos: Position) -> usize
 }
 
 /// Marks the anchors that another holds, by an empty size.
+#[tactic(auto, using(crate::proofs::MarkedAnchors::sorted_next))]
 fn mark_hidden(anchors: &mut [Rectangle])
     requires { AreSorted anchors.old }
     ensures { anchors.new ≡ marked anchors.old }
