@@ -5,28 +5,35 @@ use Rattle.tabled_draw.specs.Borders.{Arms}
 
 -- ---- the words of names
 
+-- no arm
 abbrev pub no_arms : Arms
 no_arms = record { up = false; right = false; down = false; left = false }
 
+-- one arm, up
 abbrev pub up : Arms
 up = record no_arms { up = true }
 
+-- one arm, to the right
 abbrev pub right : Arms
 right = record no_arms { right = true }
 
+-- one arm, down
 abbrev pub down : Arms
 down = record no_arms { down = true }
 
+-- one arm, to the left
 abbrev pub left : Arms
 left = record no_arms { left = true }
 
--- the arms of either
+-- the arms of both
 abbrev pub and : Arms → Arms → Arms
 and a b = record { up = a.up || b.up; right = a.right || b.right; down = a.down || b.down; left = a.left || b.left }
 
+-- those to both sides
 abbrev pub horizontal : Arms
 horizontal = and left right
 
+-- those up and down
 abbrev pub vertical : Arms
 vertical = and up down
 
