@@ -2,18 +2,38 @@ use Rattle.tabled_draw.proofs.Common.{refl}
 use Rattle.tabled_draw.proofs.StyleLaws.{is-box, is-made}
 use Rattle.tabled_draw.proofs.laws.styles_have_their_characters.Goals as goal
 
-pub returns : goal.returns
-returns c = record {
-  ascii = is-made _ _ _ _ refl refl refl;
-  modern = is-box _ _ _ refl refl refl;
-  rounded = is-box _ _ _ refl refl refl;
-  sharp = is-box _ _ _ refl refl refl;
-  extended = is-box _ _ _ refl refl refl;
-  psql = is-made _ _ _ _ refl refl refl;
-  markdown = is-made _ _ _ _ refl refl refl;
-  re_structured_text = is-made _ _ _ _ refl refl refl;
-  dots = is-made _ _ _ _ refl refl refl;
-  ascii_rounded = is-made _ _ _ _ refl refl refl;
-  blank = is-made _ _ _ _ refl refl refl;
-  empty = is-made _ _ _ _ refl refl refl;
-}
+pub returns-clause-ascii : goal.returns-clause-ascii
+returns-clause-ascii c = is-made _ _ _ _ refl refl refl
+
+pub returns-clause-modern : goal.returns-clause-modern
+returns-clause-modern c = is-box _ _ _ refl refl refl
+
+pub returns-clause-rounded : goal.returns-clause-rounded
+returns-clause-rounded c = is-box _ _ _ refl refl refl
+
+pub returns-clause-sharp : goal.returns-clause-sharp
+returns-clause-sharp c = is-box _ _ _ refl refl refl
+
+pub returns-clause-extended : goal.returns-clause-extended
+returns-clause-extended c = is-box _ _ _ refl refl refl
+
+pub returns-clause-psql : goal.returns-clause-psql
+returns-clause-psql c = is-made _ _ _ _ refl refl refl
+
+pub returns-clause-markdown : goal.returns-clause-markdown
+returns-clause-markdown c = is-made _ _ _ _ refl refl refl
+
+pub returns-clause-re_structured_text : goal.returns-clause-re_structured_text
+returns-clause-re_structured_text c = is-made _ _ _ _ refl refl refl
+
+pub returns-clause-dots : goal.returns-clause-dots
+returns-clause-dots c = is-made _ _ _ _ refl refl refl
+
+pub returns-clause-ascii_rounded : goal.returns-clause-ascii_rounded
+returns-clause-ascii_rounded c = is-made _ _ _ _ refl refl refl
+
+pub returns-clause-blank : goal.returns-clause-blank
+returns-clause-blank c = is-made _ _ _ _ refl refl refl
+
+pub returns-clause-empty : goal.returns-clause-empty
+returns-clause-empty c = is-made _ _ _ _ refl refl refl
