@@ -1,9 +1,13 @@
 -- What a pen draws, part after part, and cells that are drawn.
 use Rattle.std.proofs.Common.{arith}
-use Rattle.tabled_draw.proofs.Common.{[], ◌++◌, ◌+◌, ◌-◌, ◌<◌, ◌∙◌, ◌∷◌, ◌≡◌, Alignment, Draws, IsDone, List, Option, Pen, Sends, aligned, ap, append-nil, ap₂, cell, encode_ascii, encode_utf8, encode_utf8_all, encodes-append, first_line, indent, refl, replicate, replicate-append-replicate, subst, suc, sym, text_width, zero, ℕ}
+use Rattle.tabled_draw.proofs.Common.{[], ◌++◌, ◌+◌, ◌-◌, ◌<◌, ◌∙◌, ◌∷◌, ◌≡◌, Alignment, Draws, IsDone, List, None, Option, Pen, Sends, aligned, ap, append-nil, ap₂, cell, encode_ascii, encode_utf8, encode_utf8_all, encodes-append, first_line, indent, refl, replicate, replicate-append-replicate, subst, suc, sym, text_width, zero, ℕ}
 use Rattle.std.specs.Borrow.{MutBor}
+use Rattle.std.specs.Prelude.{Err, Ok, Result, Some, is_some, true}
+use Rattle.std.specs.Result.{OnErr, OnOk}
+use Rattle.std.specs.declared.io.Error.{Error}
 use Rattle.std.specs.Io.KnownBytes.{Appends}
-use Rattle.tabled_held.proofs.SentBytes.{all-sent, sends-as, sends-none, sends-then}
+use Rattle.tabled_held.specs.Sent.{GrowsBy, IsCutShort}
+use Rattle.tabled_held.proofs.SentBytes.{all-sent, cut-short, sends-as, sends-failed, sends-none, sends-then}
 
 encodes : (n c : ℕ) → c < 128 → encode_utf8_all (replicate n c) ≡ replicate n c
 encodes zero c low = refl
@@ -36,9 +40,25 @@ module _ {W : Type 0} {contents : W → Option (List ℕ)} where
   pub draws-then : {a b c : Pen W} {xs ys : List ℕ} → Draws contents a b xs → Draws contents b c ys → Draws contents a c (xs ++ ys)
   draws-then {a} {b} {c} {xs} {ys} first second = draws-bytes (sym (encodes-append xs ys)) (both-sent first.sends second.sends)
 
+  -- a pen whose writer has failed draws anything
+  pub draws-failed : {a : Pen W} → is_some a.held.failure ≡ true → (cs : List ℕ) → Draws contents a a cs
+  draws-failed {a} failed cs = record { sends = record { same_writer = refl; grows = failing a.held.failure refl failed } }
+    where
+      failing : (failure : Option Error) → a.held.failure ≡ failure → is_some failure ≡ true → GrowsBy (contents a.writer.now) a.held (contents a.writer.now) a.held (encode_utf8_all cs)
+      failing None is some = cc some
+      failing (Some e) is some = let told : Result (Unit {0}) Error = Err e in sends-failed (contents a.writer.now) a.held told (encode_utf8_all cs) is refl
+
   -- what is drawn where nothing was held is written, once the pen is done
-  pub written : {a b : Pen W} {writer : MutBor W} {cs : List ℕ} → a.held.bytes ≡ [] → Draws contents a b cs → IsDone contents b writer → Appends (contents a.writer.now) (contents writer.now) (encode_utf8_all cs)
-  written {a} {b} {writer} {cs} none drawn done = all-sent (contents a.writer.now) (contents writer.now) a.held done.left (encode_utf8_all cs) (sends-as (append-nil (encode_utf8_all cs)) (sends-then drawn.sends.grows done.grows)) none done.empty done.works
+  pub written : {T : Type 0} {a b : Pen W} {writer : MutBor W} {cs : List ℕ} (outcome : Result T Error) → a.held.bytes ≡ [] → Draws contents a b cs → IsDone contents b writer outcome
+      → OnOk outcome (Appends (contents a.writer.now) (contents writer.now) (encode_utf8_all cs))
+  written {T} {a} {b} {writer} {cs} (Ok x) none drawn done = all-sent (contents a.writer.now) (contents writer.now) a.held done.left (encode_utf8_all cs) (sends-as (append-nil (encode_utf8_all cs)) (sends-then drawn.sends.grows done.grows)) none done.empty done.told
+  written (Err e) none drawn done = tt
+
+  -- or a writer that fails got the first of it, and not all
+  pub cut : {T : Type 0} {a b : Pen W} {writer : MutBor W} {cs : List ℕ} (outcome : Result T Error) → a.held.bytes ≡ [] → a.held.failure ≡ None → Draws contents a b cs → IsDone contents b writer outcome
+      → OnErr outcome (IsCutShort (contents a.writer.now) (contents writer.now) (encode_utf8_all cs))
+  cut (Ok x) none works drawn done = tt
+  cut {T} {a} {b} {writer} {cs} (Err e) none works drawn done = cut-short (contents a.writer.now) (contents writer.now) a.held done.left (encode_utf8_all cs) e (sends-as (append-nil (encode_utf8_all cs)) (sends-then drawn.sends.grows done.grows)) none works done.told
 
   -- ---- bytes and cells that are drawn
 

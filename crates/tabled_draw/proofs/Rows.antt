@@ -1,5 +1,5 @@
 -- A line as it is drawn is the line of the picture; the lines of a row, and those of all rows.
-use Rattle.tabled_draw.proofs.Common.{Alignment, AreEdges, AreLeft, Bool, Bor, Columns, EndInside, Fits, Grid, IsOwnerRow, List, None, Option, Position, Rectangle, Rows, Some, SpanMap, Style, [], add-zero, after_line, aligned, alignment_in, ap, append-nil, append_assoc, ap₂, arith, begins, begun, border, border_line, border_of_rests, bytes_in, cases_Bool, cases_eq, cases_lt, column, cond, cond-false, cond-true, each, edge, rectangles, eq-eqb, eqb, false, first_line, get_or, heights, inl, inr, is_drawn, left, left_of, length, lines_of_row, lines_shown, ne_eqb, picture, picture_line, place, refl, replicate, room, same_place, same_place-apart, same_place-self, shows_in, stretches, sym, text_inside, text_of_cell, top, true, widths, with_newlines, ℕ, ◌++◌, ◌+◌, ◌-◌, ◌<◌, ◌==◌, ◌||◌, ◌∙◌, ◌∷◌, ◌≡◌, ◌≢◌, ◌≤◌, ◌⊎◌, differ, edge_between, column_between, edge_before, level, size_if}
+use Rattle.tabled_draw.proofs.Common.{Alignment, AreEdges, AreLeft, Bool, Bor, Columns, EndInside, Fits, Grid, IsOwnerRow, List, None, Option, Position, Rectangle, Rows, Some, SpanMap, Style, [], add-zero, after_line, aligned, alignment_in, ap, append-nil, append_assoc, ap₂, arith, begins, begun, border, border_line, border_of_rests, bytes_in, cases_Bool, cases_eq, cases_lt, column, cond, cond-false, cond-true, each, edge, rectangles, eq-eqb, eqb, false, first_line, get_or, heights, inl, inr, is_drawn, left, left_of, length, lines_of_row, lines_shown, ne_eqb, picture, picture_line, place, refl, replicate, room, same_place, same_place-apart, same_place-self, shows_in, stretches, suc, sym, text_inside, text_of_cell, top, true, widths, with_newlines, zero, ℕ, ◌++◌, ◌+◌, ◌-◌, ◌<◌, ◌==◌, ◌||◌, ◌∙◌, ◌∷◌, ◌≡◌, ◌≢◌, ◌≤◌, ◌⊎◌, differ, edge_between, column_between, edge_before, level, size_if}
 use Rattle.tabled_draw.proofs.Arms.{differ-self}
 use Rattle.tabled_draw.proofs.Each.{each-same, each-more}
 use Rattle.tabled_draw.proofs.Shares.{room-end}
@@ -230,3 +230,25 @@ module _ (style : Style) (aligns : List Alignment) (g : Grid (List ℕ)) (es : L
       ap (λ k. with_newlines (each k (lines_of_row style aligns g es)) ++ with_newlines (border_line style aligns g es g.rows)) is
       ∙ sym (flat_map-append (λ line. line ++ (10 ∷ [])) (each g.rows (lines_of_row style aligns g es)) (border_line style aligns g es g.rows))
       ∙ ap with_newlines (sym (cond-false ((g.rows == 0) || (g.columns == 0)) [] (each g.rows (lines_of_row style aligns g es) ++ border_line style aligns g es g.rows) (ap₂ (λ x y. x || y) (ne_eqb g.rows 0 (λ e. omega (arith, e))) (ne_eqb g.columns 0 (λ e. omega (arith, e))))))
+
+  -- some rows, and those behind them
+  later-rows : (k i : ℕ) → (rest : List ℕ) × (with_newlines (each i (lines_of_row style aligns g es)) ++ rest ≡ with_newlines (each (i + k) (lines_of_row style aligns g es)))
+  later-rows zero i = ([], append-nil (with_newlines (each i (lines_of_row style aligns g es))) ∙ ap (λ n. with_newlines (each n (lines_of_row style aligns g es))) (sym (add-zero i)))
+  later-rows (suc k) i =
+      let more = later-rows k i in
+      let next : (i + k) + 1 ≡ i + suc k = omega arith in (
+        more.0 ++ with_newlines (lines_of_row style aligns g es (i + k)),
+        sym (append_assoc (with_newlines (each i (lines_of_row style aligns g es))) more.0 (with_newlines (lines_of_row style aligns g es (i + k))))
+            ∙ ap (λ (l : List ℕ). l ++ with_newlines (lines_of_row style aligns g es (i + k))) more.1 ∙ more-rows (i + k)
+            ∙ ap (λ n. with_newlines (each n (lines_of_row style aligns g es))) next,
+      )
+
+  -- what a picture has behind some of its rows
+  pub rest-of : (i : ℕ) → i ≤ g.rows → 0 < g.rows → 0 < g.columns → (rest : List ℕ) × (with_newlines (each i (lines_of_row style aligns g es)) ++ rest ≡ with_newlines (picture style aligns g es))
+  rest-of i within high wide =
+      let more = later-rows (g.rows - i) i in
+      let all : i + (g.rows - i) ≡ g.rows = omega (arith, within) in (
+        more.0 ++ with_newlines (border_line style aligns g es g.rows),
+        sym (append_assoc (with_newlines (each i (lines_of_row style aligns g es))) more.0 (with_newlines (border_line style aligns g es g.rows)))
+            ∙ ap (λ (l : List ℕ). l ++ with_newlines (border_line style aligns g es g.rows)) more.1 ∙ all-rows (i + (g.rows - i)) all high wide,
+      )

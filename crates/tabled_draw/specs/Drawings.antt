@@ -1,5 +1,5 @@
 -- Tables that are laid out.
-use Rattle.std.specs.Prelude.{◌≡◌, ℕ, List, [], length}
+use Rattle.std.specs.Prelude.{◌≡◌, ℕ, List, [], None, length}
 use Rattle.tabled_draw.specs.Laid.{IsLayout}
 use Rattle.tabled_draw.specs.Lines.{IsBetween}
 use Rattle.tabled_draw.specs.Runs.{run_of}
@@ -17,3 +17,4 @@ pub record IsLaidOut {R C : Type 0} (g : Grid (List ℕ)) (a : Inside R C) : Typ
   pub level : a.level.items ≡ run_of a.look.style.horizontal
   pub between : IsBetween a.look.style g.columns a.layout.edges.items a.between.items
   pub unused : a.held.bytes ≡ []
+  pub works : a.held.failure ≡ None

@@ -4,6 +4,7 @@ pub mod Borders
 pub mod BoxCharacters
 pub mod Drawings
 pub mod Each
+pub mod Failures
 pub mod Laid
 pub mod Lines
 pub mod Looks

@@ -1,6 +1,6 @@
 //! Tables that are laid out.
 
-ghost use Rattle.std.specs.Prelude.{◌≡◌, ◌+◌, ◌<◌, IfOk, IsTrue, OnOk, length};
+ghost use Rattle.std.specs.Prelude.{◌≡◌, ◌+◌, ◌<◌, IfOk, IsTrue, OnErr, OnOk, length};
 ghost use Rattle.tabled_draw.specs.Bands.{HasRoom, IsBand, IsSheet};
 ghost use Rattle.tabled_draw.specs.Borders.{is_drawn};
 ghost use Rattle.tabled_draw.specs.Lines.{AreUnmerged, EndInside, begun};
@@ -77,6 +77,7 @@ where
     R::Cell: CellText,
 {
     ghost use Rattle.std.specs.Io.KnownBytes.{Appends};
+    ghost use Rattle.tabled_held.specs.Sent.{IsCutShort};
 
     /// Lays out a table (`r x c`) in the look that `tabled` has by default, as `with_look` does.
     pub fn new(alloc: Global, records: &'a R, cfg: &SpannedConfig) -> Result<Self, AllocError>
@@ -147,9 +148,11 @@ where
         Ok((drawing, width))
     }
 
-    /// Writes the picture, part by part. It takes no memory and doesn't flush the writer.
+    /// Writes the picture, part by part. It takes no memory and doesn't flush the writer. Where the writer fails, this is
+    /// told, and it got the first bytes of the picture and not all.
     pub fn write<W: Write>(self, writer: &mut W) -> io::Result<()>
         ensures written { OnOk result (Appends (W.contents writer.old) (W.contents writer.new) self.entry) }
+        ensures failed { OnErr result (IsCutShort (W.contents writer.old) (W.contents writer.new) self.entry) }
     {
         let Drawing {
             records,
@@ -187,11 +190,11 @@ where
             rests,
         };
         let mut pen = Pen::new(writer, held);
-        write_lines(&mut pen, records, &spans, &sheet, &mut band)?;
-        let written = pen.finish()?;
+        write_lines(&mut pen, records, &spans, &sheet, &mut band);
+        let (written, outcome) = pen.finish();
         // No effect: the proof reads here what the writer got.
         let _ = &*written;
-        Ok(())
+        outcome
     }
 }
 
@@ -202,7 +205,7 @@ fn write_lines<'a, W, R>(
     spans: &SpannedConfig,
     sheet: &Sheet<'_>,
     band: &mut Band<'a>,
-) -> io::Result<()>
+)
 where
     W: Write,
     R: Records + ExactRecords + PeekableRecords,
@@ -213,11 +216,14 @@ where
     requires next { band.old.next ≡ 0 }
     requires high { 0 < (R.grid records.now).rows }
     requires wide { 0 < (R.grid records.now).columns }
-    ensures { OnOk result (Draws W.contents pen.old pen.new (picture_on sheet.now (map_grid R.Cell.text_of (R.grid records.now)) spans.now)) }
+    ensures { Draws W.contents pen.old pen.new (picture_on sheet.now (map_grid R.Cell.text_of (R.grid records.now)) spans.now) }
 {
     clear(&mut band.above);
     for i in 0..sheet.rows {
-        write_row(pen, records, spans, sheet, i, band)?;
+        write_row(pen, records, spans, sheet, i, band);
+        if pen.has_failed() {
+            return;
+        }
     }
     clear(&mut band.here);
     let is_unmerged = spans.anchors().is_empty();
@@ -229,8 +235,7 @@ where
         &band.above,
         &band.here,
         &mut band.rests,
-    )?;
-    Ok(())
+    );
 }
 
 /// Writes the line above row i and the lines in it, and goes on to the line below it.
@@ -241,7 +246,7 @@ fn write_row<'a, W, R>(
     sheet: &Sheet<'_>,
     i: usize,
     band: &mut Band<'a>,
-) -> io::Result<()>
+)
 where
     W: Write,
     R: Records + ExactRecords + PeekableRecords,
@@ -251,8 +256,8 @@ where
     requires row { i < (R.grid records.now).rows }
     requires wide { 0 < (R.grid records.now).columns }
     requires band { IsBand sheet.now.look.style (map_grid R.Cell.text_of (R.grid records.now)) spans.now i band.old }
-    ensures band { OnOk result (IsBand sheet.now.look.style (map_grid R.Cell.text_of (R.grid records.now)) spans.now (i + 1) band.new) }
-    ensures draws { OnOk result (Draws W.contents pen.old pen.new (row_on sheet.now (map_grid R.Cell.text_of (R.grid records.now)) spans.now i)) }
+    ensures band { IsBand sheet.now.look.style (map_grid R.Cell.text_of (R.grid records.now)) spans.now (i + 1) band.new }
+    ensures draws { Draws W.contents pen.old pen.new (row_on sheet.now (map_grid R.Cell.text_of (R.grid records.now)) spans.now i) }
 {
     band.next = write_owners(records, spans, band.next, i, &band.above, &mut band.here);
     let is_unmerged = are_unmerged(spans, &band.above, &band.here, i);
@@ -264,13 +269,12 @@ where
         &band.above,
         &band.here,
         &mut band.rests,
-    )?;
+    );
     begin(records, i, &band.here, &mut band.rests);
     for _y in 0..sheet.heights[i] {
-        write_row_line(pen, sheet, &band.here, &mut band.rests)?;
+        write_row_line(pen, sheet, &band.here, &mut band.rests);
     }
     mem::swap(&mut band.above, &mut band.here);
-    Ok(())
 }
 
 /// Writes the line above a row, or below the last one, if it is drawn. It may be known that no cells are merged.
@@ -282,25 +286,24 @@ fn write_border<'a, W: Write>(
     above: &[Owner],
     below: &[Owner],
     rests: &mut Vec<&'a str>,
-) -> io::Result<()>
+)
     requires above { length above.now ≡ length rests.old.items + 2 }
     requires below { length below.now ≡ length rests.old.items + 2 }
     requires columns { sheet.now.columns ≡ length rests.old.items }
     requires inside { EndInside (length rests.old.items) above.now }
     requires unmerged { IsTrue is_unmerged → AreUnmerged sheet.now.rows (length rests.old.items) i above.now below.now }
     ensures long { length rests.new.items ≡ length rests.old.items }
-    ensures draws { OnOk result (Draws W.contents pen.old pen.new (border_on sheet.now i above.now below.now rests.old.items)) }
-    ensures rests { OnOk result (AreCutIf (is_drawn sheet.now.look.style.rows sheet.now.rows i) above.now below.now rests.old.items rests.new.items) }
+    ensures draws { Draws W.contents pen.old pen.new (border_on sheet.now i above.now below.now rests.old.items) }
+    ensures rests { AreCutIf (is_drawn sheet.now.look.style.rows sheet.now.rows i) above.now below.now rests.old.items rests.new.items }
 {
     if !is_drawn(sheet.look.style.rows, sheet.rows, i) {
-        return Ok(());
+        return;
     }
     if is_unmerged {
-        write_known_line(pen, sheet, i)?;
-        return Ok(());
+        write_known_line(pen, sheet, i);
+        return;
     }
-    write_border_line(pen, sheet, above, below, rests)?;
-    Ok(())
+    write_border_line(pen, sheet, above, below, rests);
 }
 
 /// Sets the texts whose cells begin in a row.

@@ -29,13 +29,13 @@ pub(crate) fn write_row_line<'a, W: Write>(
     sheet: &Sheet<'_>,
     owners: &[Owner],
     rests: &mut Vec<&'a str>,
-) -> io::Result<()>
+)
     requires owners { length owners.now ≡ length rests.old.items + 2 }
     requires columns { sheet.now.columns ≡ length rests.old.items }
     requires inside { EndInside (length rests.old.items) owners.now }
     ensures long { length rests.new.items ≡ length rests.old.items }
-    ensures draws { OnOk result (Draws W.contents pen.old pen.new (line_on sheet.now true owners.now owners.now rests.old.items)) }
-    ensures rests { OnOk result (AreCut owners.now owners.now rests.old.items rests.new.items) }
+    ensures draws { Draws W.contents pen.old pen.new (line_on sheet.now true owners.now owners.now rests.old.items) }
+    ensures rests { AreCut owners.now owners.now rests.old.items rests.new.items }
 {
     let lines = sheet.look.style.columns;
     let columns = rests.len();
@@ -57,8 +57,7 @@ pub(crate) fn write_row_line<'a, W: Write>(
         owners[columns],
         owners[columns + 1],
     );
-    pen.end_line()?;
-    Ok(())
+    pen.end_line();
 }
 
 /// Writes the line between two rows, or an outer one: a border between the owners above and below, and the texts of
@@ -69,14 +68,14 @@ pub(crate) fn write_border_line<'a, W: Write>(
     above: &[Owner],
     below: &[Owner],
     rests: &mut Vec<&'a str>,
-) -> io::Result<()>
+)
     requires above { length above.now ≡ length rests.old.items + 2 }
     requires below { length below.now ≡ length rests.old.items + 2 }
     requires columns { sheet.now.columns ≡ length rests.old.items }
     requires inside { EndInside (length rests.old.items) above.now }
     ensures long { length rests.new.items ≡ length rests.old.items }
-    ensures draws { OnOk result (Draws W.contents pen.old pen.new (line_on sheet.now false above.now below.now rests.old.items)) }
-    ensures rests { OnOk result (AreCut above.now below.now rests.old.items rests.new.items) }
+    ensures draws { Draws W.contents pen.old pen.new (line_on sheet.now false above.now below.now rests.old.items) }
+    ensures rests { AreCut above.now below.now rests.old.items rests.new.items }
 {
     let lines = sheet.look.style.columns;
     let columns = rests.len();
@@ -108,17 +107,12 @@ pub(crate) fn write_border_line<'a, W: Write>(
         (below[columns], below[columns + 1]),
         (left, right),
     );
-    pen.end_line()?;
-    Ok(())
+    pen.end_line();
 }
 
 /// Writes the line above row i of a table without merged cells, or below its last row.
-fn write_unmerged_line<W: Write>(
-    pen: &mut Pen<'_, W>,
-    sheet: &Sheet<'_>,
-    i: usize,
-) -> io::Result<()>
-    ensures draws { OnOk result (Draws W.contents pen.old pen.new (unmerged_line_on sheet.now i)) }
+fn write_unmerged_line<W: Write>(pen: &mut Pen<'_, W>, sheet: &Sheet<'_>, i: usize)
+    ensures draws { Draws W.contents pen.old pen.new (unmerged_line_on sheet.now i) }
 {
     let lines = sheet.look.style.columns;
     let columns = sheet.columns;
@@ -135,8 +129,7 @@ fn write_unmerged_line<W: Write>(
     }
     let last = corner(&sheet.look.style, up, false, down, 0 < columns);
     write_mark(pen, is_drawn(lines, columns, columns), last);
-    pen.end_line()?;
-    Ok(())
+    pen.end_line();
 }
 
 /// The bytes of the line between two rows without merged cells. There are none where it is drawn once at most, or takes
@@ -165,28 +158,23 @@ fn write_first_line_between<W: Write>(
     ensures { OnOk result (Appends (W.contents writer.old) (W.contents writer.new) (encode_utf8_all (unmerged_line_on sheet.now 1))) }
 {
     let mut pen = Pen::new(writer, held);
-    write_unmerged_line(&mut pen, sheet, 1)?;
-    let written = pen.finish()?;
+    write_unmerged_line(&mut pen, sheet, 1);
+    let (written, outcome) = pen.finish();
     // No effect: the proof reads here what the writer got.
     let _ = &*written;
-    Ok(())
+    outcome
 }
 
 /// Writes the line above row i of a table, or below its last row, at which no merged cell lies. Its bytes may be known,
 /// if it is between two rows.
-pub(crate) fn write_known_line<W: Write>(
-    pen: &mut Pen<'_, W>,
-    sheet: &Sheet<'_>,
-    i: usize,
-) -> io::Result<()>
-    ensures draws { OnOk result (Draws W.contents pen.old pen.new (unmerged_line_on sheet.now i)) }
+pub(crate) fn write_known_line<W: Write>(pen: &mut Pen<'_, W>, sheet: &Sheet<'_>, i: usize)
+    ensures draws { Draws W.contents pen.old pen.new (unmerged_line_on sheet.now i) }
 {
     if sheet.between.is_empty() || i == 0 || sheet.rows <= i {
-        write_unmerged_line(pen, sheet, i)?;
-        return Ok(());
+        write_unmerged_line(pen, sheet, i);
+        return;
     }
-    pen.send_line(sheet.between)?;
-    Ok(())
+    pen.send(sheet.between);
 }
 
 /// Writes a character, if there is one and its line is drawn.

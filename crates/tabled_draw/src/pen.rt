@@ -1,6 +1,6 @@
 //! A pen: a writer, and what is held for it.
 
-ghost use Rattle.std.specs.Prelude.{◌≡◌, ◌∷◌, [], IfOk, OnOk, encode_utf8, replicate};
+ghost use Rattle.std.specs.Prelude.{◌≡◌, ◌∷◌, [], IfOk, encode_utf8, is_some, replicate};
 ghost use Rattle.tabled_draw.specs.Runs.{run_of};
 
 use std::alloc::{AllocError, Global};
@@ -111,30 +111,28 @@ impl<'w, W: Write> Pen<'w, W> {
         self.send(&run[..count % RUN * (run.len() / RUN)]);
     }
 
-    /// Ends a line, and tells how the writer did so far.
+    /// Ends a line.
     #[inline(always)]
-    pub(crate) fn end_line(&mut self) -> io::Result<()>
-        ensures { OnOk result (Draws W.contents self.old self.new (10 ∷ [])) }
+    pub(crate) fn end_line(&mut self)
+        ensures { Draws W.contents self.old self.new (10 ∷ []) }
     {
         self.send_byte(b'\n');
-        self.held.outcome()
     }
 
-    /// Draws a line whose bytes are known with its end, and tells how the writer did so far.
-    pub(crate) fn send_line(&mut self, bytes: &[u8]) -> io::Result<()>
-        ensures { OnOk result (Sends W.contents self.old self.new bytes.now) }
+    /// Says whether the writer has failed.
+    pub(crate) fn has_failed(&self) -> bool
+        ensures { result ≡ is_some self.now.held.failure }
     {
-        self.send(bytes);
-        self.held.outcome()
+        self.held.outcome().is_err()
     }
 
-    /// Sends what is held, and gives the writer back if it never failed.
-    pub(crate) fn finish(self) -> io::Result<&'w mut W>
-        ensures { IfOk result (IsDone W.contents self.entry) }
+    /// Sends what is held, and gives the writer back, and how it did.
+    pub(crate) fn finish(self) -> (&'w mut W, io::Result<()>)
+        ensures { IsDone W.contents self.entry result.0 result.1 }
     {
         let Pen { writer, mut held } = self;
         held.send(writer);
-        held.outcome()?;
-        Ok(writer)
+        let outcome = held.outcome();
+        (writer, outcome)
     }
 }

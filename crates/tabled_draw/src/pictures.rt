@@ -1,8 +1,9 @@
 //! The picture of a table, written or as a text.
 
-ghost use Rattle.std.specs.Prelude.{◌≡◌, IfOk, OnOk};
+ghost use Rattle.std.specs.Prelude.{◌≡◌, IfErr, IfOk, OnOk};
 ghost use Rattle.std.specs.Io.KnownBytes.{Appends};
 ghost use Rattle.std.specs.String.{string_bytes};
+ghost use Rattle.tabled_draw.specs.Failures.{LeavesSome};
 ghost use Rattle.tabled_draw.specs.Looks.{drawn_in};
 ghost use Rattle.tabled_draw.specs.Picture.{drawn};
 ghost use Rattle.tabled_grid.specs.Grid.{map_grid};
@@ -19,7 +20,8 @@ use tabled_grid::records::{CellText, ExactRecords, PeekableRecords, Records};
 /// cell with another one are left out. Each line ends with a newline. A table without cells has no line.
 ///
 /// All memory is asked for before the first byte is written: refused, this is an error of the kind `OutOfMemory`, and
-/// nothing is written. Any other error is the writer's. It doesn't flush the writer.
+/// nothing is written. Any other error is the writer's, which got the first bytes of the picture and not all. It doesn't
+/// flush the writer.
 ///
 /// Of this project.
 pub fn draw<W, R>(alloc: Global, writer: &mut W, records: &R, cfg: &SpannedConfig) -> io::Result<()>
@@ -29,6 +31,8 @@ where
     R::Cell: CellText,
     requires well { R.is_well_formed records.now }
     ensures drawn { OnOk result (Appends (W.contents writer.old) (W.contents writer.new) (drawn (map_grid R.Cell.text_of (R.grid records.now)) cfg.now)) }
+    ensures failed { IfErr result (λ error. LeavesSome error (W.contents writer.old) (W.contents writer.new)
+        (drawn (map_grid R.Cell.text_of (R.grid records.now)) cfg.now)) }
 {
     let drawing = Drawing::new(alloc, records, cfg)?;
     drawing.write(writer)
@@ -50,6 +54,8 @@ where
     R::Cell: CellText,
     requires well { R.is_well_formed records.now }
     ensures drawn { OnOk result (Appends (W.contents writer.old) (W.contents writer.new)
+        (drawn_in look.now (map_grid R.Cell.text_of (R.grid records.now)) cfg.now)) }
+    ensures failed { IfErr result (λ error. LeavesSome error (W.contents writer.old) (W.contents writer.new)
         (drawn_in look.now (map_grid R.Cell.text_of (R.grid records.now)) cfg.now)) }
 {
     let drawing = Drawing::with_look(alloc, records, cfg, look)?;

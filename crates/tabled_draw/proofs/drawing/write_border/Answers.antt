@@ -11,7 +11,7 @@ returns-then-is_unmerged-clause-draws g c =
     (ap (λ n. unmerged_line c.args.sheet.now.look.style c.args.sheet.now.rows n c.args.i c.args.sheet.now.edges.now) c.requires.columns
     ∙ unmerged-is c.args.sheet.now.rows (length c.args.rests.now.items) c.args.i c.args.above.now c.args.below.now (c.requires.unmerged c.if-is_unmerged.true) c.args.sheet.now.look.style c.args.sheet.now.look.alignments.now c.args.sheet.now.edges.now (bytes_in c.args.rests.now.items)
     ∙ sym (cond-true _ _ _ drawn))
-    c.in_ok-write_known_line.ensures.draws
+    c.write_known_line.ensures.draws
 
 pub returns-then-is_unmerged-clause-rests : goal.returns-then-is_unmerged-clause-rests
 returns-then-is_unmerged-clause-rests g c =

@@ -1,7 +1,7 @@
 use Rattle.tabled_draw.proofs.Common.{◌+◌, ◌∙◌, ◌≡◌, AreUnmerged, Draws, IsOwnerRow, ap, ap₂, arith, border_line, border_of_rests, bytes_in, length, map_grid, rectangles, refl, subst, sym, top, with_newlines}
 use Rattle.tabled_draw.proofs.Owned.{count-none, owner-below, owner-top, row-outside}
-use Rattle.tabled_draw.proofs.Rows.{all-rows, border-text, end-inside, left-outside, more-rows}
-use Rattle.tabled_draw.proofs.Pens.{draws-as, draws-none, draws-then}
+use Rattle.tabled_draw.proofs.Rows.{all-rows, border-text, end-inside, left-outside, more-rows, rest-of}
+use Rattle.tabled_draw.proofs.Pens.{draws-as, draws-failed, draws-none, draws-then}
 use Rattle.tabled_draw.proofs.Unmerged.{none-left, unmerged-rows}
 use Rattle.tabled_draw.proofs.drawing.write_lines.Goals as goal
 
@@ -25,9 +25,18 @@ pub loop-i-preserved : goal.loop-i-preserved
 loop-i-preserved g c =
     let t = map_grid g.R.Cell.CellText.text_of (g.R.GridStore.grid c.args.records.now) in
     record {
-      band = c.in_ok-write_row.ensures.band;
-      drawn = draws-as (more-rows c.args.sheet.now.look.style c.args.sheet.now.look.alignments.now t (rectangles c.args.spans.now) c.loop-i.i) (draws-then c.loop-i.invariant.drawn c.in_ok-write_row.ensures.draws);
+      band = c.write_row.ensures.band;
+      drawn = draws-as (more-rows c.args.sheet.now.look.style c.args.sheet.now.look.alignments.now t (rectangles c.args.spans.now) c.loop-i.i) (draws-then c.loop-i.invariant.drawn c.write_row.ensures.draws);
     }
+
+pub returns-then-has_failed : goal.returns-then-has_failed
+returns-then-has_failed g c =
+    let t = map_grid g.R.Cell.CellText.text_of (g.R.GridStore.grid c.args.records.now) in
+    let es = rectangles c.args.spans.now in
+    let style = c.args.sheet.now.look.style in
+    let aligns = c.args.sheet.now.look.alignments.now in
+    let rest = rest-of style aligns t es (c.loop-i.i + 1) (omega (arith, c.loop-i-test.true, c.loop-i.auto.i-end, c.requires.sheet.rows)) c.requires.high c.requires.wide in
+    draws-as rest.1 (draws-then (draws-as (more-rows style aligns t es c.loop-i.i) (draws-then c.loop-i.invariant.drawn c.write_row.ensures.draws)) (draws-failed (sym c.has_failed.ensures ∙ c.if-has_failed.true) rest.0))
 
 pub write_border-requires-clause-inside : goal.write_border-requires-clause-inside
 write_border-requires-clause-inside g c = rw (c.loop-i.invariant.band.long, c.deref.ensures.value) (end-inside c.args.spans.now _ _ c.loop-i.i c.loop-i.band.above.items c.requires.sheet.fits c.loop-i.invariant.band.above)
@@ -55,7 +64,7 @@ returns g c =
     let aligns = c.args.sheet.now.look.alignments.now in
     let last : c.args.sheet.now.rows ≡ c.loop-i.i = c.requires.sheet.rows ∙ sym i in
     let drawn : Draws g.W.Write.contents c.loop-i.pen c.write_border.new.pen (border_of_rests style aligns t.rows c.loop-i.i c.args.sheet.now.edges.now c.deref.result.now c.deref-2.result.now c.loop-i.band.rests.items) =
-    draws-as (ap₂ (λ n k. border_of_rests style aligns n k c.args.sheet.now.edges.now c.deref.result.now c.deref-2.result.now c.loop-i.band.rests.items) c.requires.sheet.rows last) c.in_ok-write_border.ensures.draws in
+    draws-as (ap₂ (λ n k. border_of_rests style aligns n k c.args.sheet.now.edges.now c.deref.result.now c.deref-2.result.now c.loop-i.band.rests.items) c.requires.sheet.rows last) c.write_border.ensures.draws in
     draws-as (all-rows style aligns t (rectangles m) c.loop-i.i i c.requires.high c.requires.wide) (draws-then c.loop-i.invariant.drawn
     (draws-as (border-text style aligns t m c.requires.sheet.fits c.args.sheet.now.edges.now c.requires.sheet.edges c.loop-i.i (top style t (rectangles m) c.loop-i.i) t.rows c.deref.result.now c.deref-2.result.now c.loop-i.band.rests.items refl refl over under c.loop-i.invariant.band.left c.loop-i.invariant.band.long
     ∙ ap (λ k. with_newlines (border_line style aligns t (rectangles m) k)) i)

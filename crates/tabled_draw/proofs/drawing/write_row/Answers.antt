@@ -41,11 +41,11 @@ loop-y-init g c =
       next = refl;
       long = c.begin.ensures.long;
       left = subst (λ n. AreLeft style t m (i + 1) n new) (ap (λ k. top style t (rectangles m) i + k) (sym size) ∙ sym (add-zero (top style t (rectangles m) i + border Rows style t i))) (left-next_row style t m c.requires.sheet.fits drawn i (top style t (rectangles m) i) old cut new c.requires.row refl size c.requires.band.left
-          (λ j less. c.in_ok-write_border.ensures.rests j (omega (arith, less, c.requires.band.long)) ∙ ap₂ (λ a b. cond drawn (left_of j a b (get_or old j [])) (get_or old j [])) (over.each (j + 1) (omega (arith, less))) (under.each (j + 1) (omega (arith, less))))
+          (λ j less. c.write_border.ensures.rests j (omega (arith, less, c.requires.band.long)) ∙ ap₂ (λ a b. cond drawn (left_of j a b (get_or old j [])) (get_or old j [])) (over.each (j + 1) (omega (arith, less))) (under.each (j + 1) (omega (arith, less))))
           (λ j less. c.begin.ensures.begun j less ∙ ap (λ a. begun t a (place i j) (get_or cut j [])) (again.each (j + 1) (omega (arith, less)))));
       drawn = draws-as
           (border-text style aligns t m c.requires.sheet.fits c.args.sheet.now.edges.now c.requires.sheet.edges i (top style t (rectangles m) i) c.args.sheet.now.rows c.deref-3.result.now c.deref-4.result.now c.args.band.now.rests.items c.requires.sheet.rows refl over under c.requires.band.left c.requires.band.long ∙ first-below style aligns t (rectangles m) i)
-          c.in_ok-write_border.ensures.draws;
+          c.write_border.ensures.draws;
     }
 
 pub loop-y-preserved : goal.loop-y-preserved
@@ -68,12 +68,12 @@ loop-y-preserved g c =
       above = c.loop-y.invariant.above;
       here = c.loop-y.invariant.here;
       next = c.loop-y.invariant.next;
-      long = c.in_ok-write_row_line.ensures.long ∙ c.loop-y.invariant.long;
+      long = c.write_row_line.ensures.long ∙ c.loop-y.invariant.long;
       left = subst (λ k. AreLeft style t m (i + 1) k new) (add_assoc (top style t (rectangles m) i + border Rows style t i) y 1) (left-in_row style t m c.requires.sheet.fits (i + 1) n old new (omega arith) (omega (arith, within)) low c.loop-y.invariant.left
-          (λ j less. c.in_ok-write_row_line.ensures.rests j (omega (arith, less, c.loop-y.invariant.long)) ∙ ap₂ (λ a b. left_of j a b (get_or old j [])) (ap (λ row. get_or row (j + 1) None) c.deref-in-loop-y.ensures.value ∙ own.each (j + 1) (omega (arith, less))) (ap (λ row. get_or row (j + 1) None) c.deref-in-loop-y.ensures.value ∙ own.each (j + 1) (omega (arith, less)))));
+          (λ j less. c.write_row_line.ensures.rests j (omega (arith, less, c.loop-y.invariant.long)) ∙ ap₂ (λ a b. left_of j a b (get_or old j [])) (ap (λ row. get_or row (j + 1) None) c.deref-in-loop-y.ensures.value ∙ own.each (j + 1) (omega (arith, less))) (ap (λ row. get_or row (j + 1) None) c.deref-in-loop-y.ensures.value ∙ own.each (j + 1) (omega (arith, less)))));
       drawn = draws-as (more-below style aligns t (rectangles m) i y) (draws-then c.loop-y.invariant.drawn (draws-as
           (ap (λ a. drawn_line style aligns (length c.loop-y.band.rests.items) true edges a a old) c.deref-in-loop-y.ensures.value ∙ in-row style aligns t m c.requires.sheet.fits edges c.requires.sheet.edges i n here old (length c.loop-y.band.rests.items) own c.loop-y.invariant.left c.loop-y.invariant.long)
-          c.in_ok-write_row_line.ensures.draws));
+          c.write_row_line.ensures.draws));
     }
 
 pub returns : goal.returns

@@ -37,4 +37,4 @@ returns-clause-draws g c =
     draws-as (ap (λ n. drawn_line c.args.sheet.now.look.style c.args.sheet.now.look.alignments.now n false c.args.sheet.now.edges.now c.args.above.now c.args.below.now old) columns) (draws-then (draws-then
     (draws-as (ap (λ n. each n (stretches c.args.sheet.now.look.style c.args.sheet.now.look.alignments.now c.len-columns.result false c.args.sheet.now.edges.now c.args.above.now c.args.below.now old)) (end ∙ sym columns)) c.loop-j.invariant.drawn)
     (draws-as (ap (λ d. edge c.args.sheet.now.look.style false d (get_or c.args.above.now c.len-columns.result None) (get_or c.args.above.now (c.len-columns.result + 1) None) (get_or c.args.below.now c.len-columns.result None) (get_or c.args.below.now (c.len-columns.result + 1) None)) c.is_drawn-drawn-2.ensures) c.write_corner-2.ensures))
-    c.in_ok-end_line.ensures)
+    c.end_line.ensures)

@@ -9,4 +9,4 @@ returns g c =
     let some : c.args.sheet.now.between.now ≢ [] = λ none. false≢true (sym c.if-is_empty.false ∙ c.is_empty.ensures ∙ ap (λ (xs : List ℕ). length xs == 0) none) in
     let line = unmerged_line c.args.sheet.now.look.style c.args.sheet.now.rows c.args.sheet.now.columns c.args.i c.args.sheet.now.edges.now in
     let bytes : c.args.sheet.now.between.now ≡ encode_utf8_all line = c.args.sheet.now.is_between.is some ∙ ap encode_utf8_all (between-is c.args.sheet.now.look.style c.args.sheet.now.rows c.args.sheet.now.columns c.args.i c.args.sheet.now.edges.now (omega (arith, c.if-i-eq0.false)) (omega (arith, c.if-sheet-i.false))) in
-    record { draws = draws-bytes bytes c.in_ok-send_line.ensures }
+    record { draws = draws-bytes bytes c.send.ensures }

@@ -37,5 +37,5 @@ returns g c =
       draws = draws-then (draws-then
           (draws-as (ap (λ n. each n (unmerged_stretch c.args.sheet.now.look.style c.args.sheet.now.rows columns c.args.i c.args.sheet.now.edges.now)) end) c.loop-j.invariant.drawn)
           (draws-as (ap₂ marked c.is_drawn.ensures last) c.write_mark-2.ensures))
-          c.in_ok-end_line.ensures;
+          c.end_line.ensures;
     }

@@ -22,6 +22,7 @@ invariant_of-drawing g c =
         between = subst (λ n. IsBetween c.args.look.now.style n c.in_ok-layout.layout.edges.items c.in_ok-between.between.items) c.count_columns-columns.ensures.columns
             (subst (λ e. IsBetween c.args.look.now.style c.count_columns-columns.result e c.in_ok-between.between.items) c.deref-2.ensures.value c.in_ok-between.ensures);
         unused = c.in_ok-held.ensures.empty;
+        works = c.in_ok-held.ensures.works;
       },
     )
 
