@@ -22,6 +22,7 @@ pub mod PlacedAnchors
 pub mod PlainLines
 pub mod QuietLines
 pub mod RoundTrip
+pub mod RowScripts
 pub mod ScriptChecks
 pub mod ScriptLines
 pub mod Separated

@@ -21,7 +21,7 @@ pub block : {A : Type 0} (fault_at : List Line → Line → Option Fault) (make 
 block fault_at make Kept fine keeps [] rest earlier kept after = after earlier kept
 block fault_at make Kept fine keeps (x ∷ xs) rest earlier kept after = quiet-cons fault_at earlier (make x) (map make xs ++ rest) (fine earlier x kept) (block fault_at make Kept fine keeps xs rest (earlier ++ make x ∷ []) (keeps earlier x kept) after)
 
-all-push : (line before : Line) (earlier : List Line) → is_in_place earlier line ≡ true → may_follow line before ≡ true → is_in_place (earlier ++ before ∷ []) line ≡ true
+pub all-push : (line before : Line) (earlier : List Line) → is_in_place earlier line ≡ true → may_follow line before ≡ true → is_in_place (earlier ++ before ∷ []) line ≡ true
 all-push line before earlier h k = list_all-append (may_follow line) earlier (before ∷ []) ∙ rw (h, k) refl
 
 abbrev pub records : List (List (List ℕ)) → List Line

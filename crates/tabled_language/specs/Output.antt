@@ -31,11 +31,17 @@ line texts = tab_separated texts ++ 10 ∷ []
 abbrev pub span_line : Rectangle → List ℕ
 span_line e = line (codes "span" ∷ decimal e.first.row ∷ decimal e.first.col ∷ decimal e.size.height ∷ decimal e.size.width ∷ [])
 
+-- the line of a record: `row`, and its texts
+abbrev pub row_line : List (List ℕ) → List ℕ
+row_line texts = line (codes "row" ∷ texts)
+
+-- the lines of records
+abbrev pub row_lines : List (List (List ℕ)) → List ℕ
+row_lines rows = flat_map row_line rows
+
 -- the lines of a table's shape, and then of its rows
 abbrev pub table_lines : Grid (List ℕ) → List ℕ
-table_lines g =
-    line (codes "shape" ∷ decimal g.rows ∷ decimal g.columns ∷ [])
-    ++ flat_map (λ row. line (codes "row" ∷ row)) g.cells
+table_lines g = line (codes "shape" ∷ decimal g.rows ∷ decimal g.columns ∷ []) ++ row_lines g.cells
 
 -- a table's lines, and then those of its rectangles, row by row
 abbrev pub print : State → List ℕ

@@ -27,3 +27,4 @@ pub use padding::padded;
 pub use plain::PlainText;
 pub use script::{Script, parse};
 pub use short::ShortText;
+pub use word::length_of;

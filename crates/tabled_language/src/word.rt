@@ -106,8 +106,10 @@ pub(crate) fn number_of(text: &str) -> Option<usize>
     number_to(LARGEST_NUMBER, text)
 }
 
-/// A number that a shape or a span may name.
-pub(crate) fn length_of(text: &str) -> Option<usize>
+/// A number that a shape or a span may name: what digits write, leading zeros too, with no sign before them.
+///
+/// Of this project.
+pub fn length_of(text: &str) -> Option<usize>
     ensures { result ≡ length_of text.now }
 {
     number_to(usize::MAX, text)
