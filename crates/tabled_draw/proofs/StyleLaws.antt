@@ -1,7 +1,10 @@
 -- The lines and the characters of styles: computed, for each set of arms.
-use Rattle.tabled_draw.proofs.Common.{[], ◌∙◌, ◌∷◌, ◌≡◌, Arms, Bool, List, Style, are_none, arith, cond, cond-false, corner, false, nat_tests, sym, true, ℕ}
+use Rattle.tabled_draw.proofs.Common.{[], ◌∙◌, ◌∷◌, ◌≡◌, Alignment, Arms, Bool, Grid, List, Rectangle, Style, are_none, arith, cond, cond-false, cond-true, corner, false, meeting, nat_tests, sym, true, ℕ}
+use Rattle.tabled_draw.proofs.LawPicture.{are-met, stand-between}
+use Rattle.tabled_draw.proofs.Owned.{LieWell}
+use Rattle.tabled_draw.specs.Borders.{are_one}
 use Rattle.tabled_draw.specs.BoxCharacters.{arms_of, horizontal, vertical}
-use Rattle.tabled_draw.specs.StyleLaws.{AreDrawn, IsBox, IsMadeOf, all_lines, inner_lines, line_of_header, no_lines, outer_lines, outer_lines_and_header}
+use Rattle.tabled_draw.specs.StyleLaws.{AreDrawn, HasArmsAtCorners, HasEnds, IsBox, IsMadeOf, all_lines, inner_lines, line_of_header, no_lines, outer_lines, outer_lines_and_header}
 use Rattle.tabled_draw.specs.declared.style.TheConstants.Lines.{ALL, FRAME, FRAME_AND_HEADER, HEADER, INNER, NONE}
 
 -- ---- lines
@@ -49,13 +52,16 @@ same-arms f h e a =
 
 -- ---- characters
 
-pub is-box : (characters : List (ℕ × Arms)) (without : Arms → Bool) (style : Style) → arms_of characters style.horizontal ≡ horizontal → arms_of characters style.vertical ≡ vertical
-    → all_arms (λ a. cond (without a) a (arms_of characters (corner style a))) ≡ all_arms (λ a. a) → IsBox characters without style
-is-box characters without style level upright corners = record {
+pub is-box : (characters : List (ℕ × Arms)) (style : Style) → arms_of characters style.horizontal ≡ horizontal → arms_of characters style.vertical ≡ vertical
+    → all_arms (λ a. cond (are_one a) a (arms_of characters (corner style a))) ≡ all_arms (λ a. a) → IsBox characters style
+is-box characters style level upright corners = record {
   level = level;
   upright = upright;
-  corners = λ a h. sym (cond-false (without a) a (arms_of characters (corner style a)) h) ∙ same-arms (λ a. cond (without a) a (arms_of characters (corner style a))) (λ a. a) corners a;
+  corners = λ a h. sym (cond-false (are_one a) a (arms_of characters (corner style a)) h) ∙ same-arms (λ a. cond (are_one a) a (arms_of characters (corner style a))) (λ a. a) corners a;
 }
+
+pub has-ends : (characters : List (ℕ × Arms)) (style : Style) → all_arms (λ a. cond (are_one a) (arms_of characters (corner style a)) a) ≡ all_arms (λ a. a) → HasEnds characters style
+has-ends characters style ends a h = sym (cond-true (are_one a) (arms_of characters (corner style a)) a h) ∙ same-arms (λ a. cond (are_one a) (arms_of characters (corner style a)) a) (λ a. a) ends a
 
 pub is-made : (level upright : List ℕ) (corner_of : Arms → List ℕ) (style : Style) → style.horizontal ∷ [] ≡ level → style.vertical ∷ [] ≡ upright
     → all_arms (λ a. cond (are_none a) [] (corner style a ∷ [])) ≡ all_arms (λ a. cond (are_none a) [] (corner_of a)) → IsMadeOf level upright corner_of style
@@ -63,4 +69,13 @@ is-made level upright corner_of style is_level is_upright corners = record {
   level = is_level;
   upright = is_upright;
   corners = λ a h. sym (cond-false (are_none a) [] (corner style a ∷ []) h) ∙ same-arms (λ a. cond (are_none a) [] (corner style a ∷ [])) (λ a. cond (are_none a) [] (corner_of a)) corners a ∙ cond-false (are_none a) [] (corner_of a) h;
+}
+
+-- ---- corners in pictures
+
+pub arms-at-corners : (style : Style) (aligns : List Alignment) (g : Grid (List ℕ)) (es : List Rectangle) → LieWell g.rows g.columns es → HasArmsAtCorners style aligns g es
+arms-at-corners style aligns g es well characters box fine some i j low far drawn_row drawn_column apart = record {
+  character = corner style (meeting g es i j);
+  has_arms = box.corners (meeting g es i j) ((are-met style aligns g es well some).none_alone i j low far);
+  stands = (stand-between style aligns g es well some fine).around i j low far drawn_row drawn_column apart;
 }

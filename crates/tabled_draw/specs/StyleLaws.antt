@@ -1,9 +1,17 @@
 -- What the styles that have a name are made of: which lines they draw, and by which characters.
 use Rattle.std.specs.Prelude.{◌≡◌, ◌≤◌, ◌==◌, ◌&&◌, ◌||◌, if◌then◌else◌, ℕ, Bool, false, true, List, [], ◌∷◌, codes, nat_lt, not}
-use Rattle.tabled_draw.specs.Borders.{Arms, are_none, are_one, corner, is_drawn}
+use Rattle.tabled_draw.specs.Borders.{Arms, are_none, are_one, border, corner, is_drawn}
 use Rattle.tabled_draw.specs.BoxCharacters.{arms_of, horizontal, vertical}
+use Rattle.tabled_draw.specs.Marks.{IsFine}
+use Rattle.tabled_draw.specs.Picture.{left, picture, top}
+use Rattle.tabled_draw.specs.Standing.{StandsAt, is_joined_around, meeting}
+use Rattle.tabled_draw.specs.declared.alignment.Alignment.{Alignment}
 use Rattle.tabled_draw.specs.declared.style.Lines.{Lines}
 use Rattle.tabled_draw.specs.declared.style.Style.{Style}
+use Rattle.tabled_grid.specs.Entity.{place}
+use Rattle.tabled_grid.specs.Grid.{Grid, IsInside}
+use Rattle.tabled_grid.specs.declared.config.rectangle.Rectangle.{Rectangle}
+use Rattle.tabled_grid.specs.declared.records.axis.Axis.TheVariants.{Rows, Columns}
 
 -- ---- lines
 
@@ -44,20 +52,30 @@ pub record HasLines (style : Style) (around_rows around_columns : ℕ → ℕ �
 
 -- ---- characters
 
--- Borders are the level and the upright one of some characters, and each corner, whatever its arms, is that one of them
--- that has these arms. Sets of arms may be left out.
-pub record IsBox (characters : List (ℕ × Arms)) (without : Arms → Bool) (style : Style) : Type 0 where
+-- borders are the level and the upright one of some characters, and each corner, unless it has one arm alone, is that one
+-- of them that has its arms
+pub record IsBox (characters : List (ℕ × Arms)) (style : Style) : Type 0 where
   pub level : arms_of characters style.horizontal ≡ horizontal
   pub upright : arms_of characters style.vertical ≡ vertical
-  pub corners : (a : Arms) → without a ≡ false → arms_of characters (corner style a) ≡ a
+  pub corners : (a : Arms) → are_one a ≡ false → arms_of characters (corner style a) ≡ a
 
--- no set of arms is left out
-abbrev pub none_left_out : Arms → Bool
-none_left_out a = false
+-- so is each corner that has one arm alone
+abbrev pub HasEnds : List (ℕ × Arms) → Style → Type 0
+HasEnds characters style = (a : Arms) → are_one a ≡ true → arms_of characters (corner style a) ≡ a
 
--- those of one arm are, with which no corner is drawn
-abbrev pub one_arm_left_out : Arms → Bool
-one_arm_left_out a = are_one a
+-- in a line of a picture, after some columns, one of some characters stands that has these arms
+pub record HasArmsAt (characters : List (ℕ × Arms)) (lines : List (List ℕ)) (n columns : ℕ) (a : Arms) : Type 0 where
+  pub character : ℕ
+  pub has_arms : arms_of characters character ≡ a
+  pub stands : StandsAt lines n columns (character ∷ [])
+
+-- where a table with a cell is drawn as boxes, each corner, unless a merged cell lies all round it, has just the arms of
+-- the borders that end there
+abbrev pub HasArmsAtCorners : Style → List Alignment → Grid (List ℕ) → List Rectangle → Type 0
+HasArmsAtCorners style aligns g es =
+    (characters : List (ℕ × Arms)) → IsBox characters style → IsFine style → IsInside g (place 0 0)
+    → (i j : ℕ) → i ≤ g.rows → j ≤ g.columns → border Rows style g i ≡ 1 → border Columns style g j ≡ 1 → is_joined_around es i j ≡ false
+    → HasArmsAt characters (picture style aligns g es) (top style g es i) (left style g es j) (meeting g es i j)
 
 -- borders are these two characters, and each corner with an arm is that which its arms say
 pub record IsMadeOf (level_border upright_border : List ℕ) (corner_of : Arms → List ℕ) (style : Style) : Type 0 where

@@ -7,7 +7,7 @@ ghost use Rattle.tabled_draw.specs.Marks.{IsFine};
 ghost use Rattle.tabled_draw.specs.Overall.{AreDrawnAlike, AreEquallyWide, AreNoLargerThanAsked, HasAsManyLines, HasLineOfEachRow, HasNoControls, HasNoLinesWithoutCells, HoldsOfAll, HoldsOfPictures, IsDrawnWhole};
 ghost use Rattle.tabled_draw.specs.Picture.{bytes_of_lines};
 ghost use Rattle.tabled_draw.specs.Standing.{AreSeenAlike, GoOn, HasBorders, HasPlainBorders, ShowsAllTexts};
-ghost use Rattle.tabled_draw.specs.StyleLaws.{HasLines, IsBox, IsMadeOf, all_lines, ascii_rounded_corner, dash_or_bar_or, dots_corner, inner_lines, line_of_header, markdown_corner, no_lines, none_left_out, one_arm_left_out, outer_lines, outer_lines_and_header, re_structured_text_corner};
+ghost use Rattle.tabled_draw.specs.StyleLaws.{HasArmsAtCorners, HasEnds, HasLines, IsBox, IsMadeOf, all_lines, ascii_rounded_corner, dash_or_bar_or, dots_corner, inner_lines, line_of_header, markdown_corner, no_lines, outer_lines, outer_lines_and_header, re_structured_text_corner};
 ghost use Rattle.tabled_draw.specs.Styles.{styles};
 ghost use Rattle.tabled_draw.specs.declared.alignment.Alignment.{Alignment};
 ghost use Rattle.tabled_draw.specs.declared.style.TheConstants.Style.{ASCII, ASCII_ROUNDED, BLANK, DOTS, EMPTY, EXTENDED, MARKDOWN, MODERN, NAMES, PSQL, RE_STRUCTURED_TEXT, ROUNDED, SHARP};
@@ -63,13 +63,16 @@ pub fn styles_have_their_lines()
 {}
 
 /// Which characters each style has. Those of boxes have exactly the arms that they are drawn for, by their names in
-/// Unicode. No corner has one arm alone, as `borders_go_on` says; for such a one Unicode has no character of double lines.
+/// Unicode, which has no double line with one arm alone. No corner is drawn that has one: `borders_go_on`.
 pub fn styles_have_their_characters()
     ensures ascii { IsMadeOf (codes "-") (codes "|") (λ a. codes "+") ASCII }
-    ensures modern { IsBox sharp_lines none_left_out MODERN }
-    ensures rounded { IsBox round_lines none_left_out ROUNDED }
-    ensures sharp { IsBox sharp_lines none_left_out SHARP }
-    ensures extended { IsBox double_lines one_arm_left_out EXTENDED }
+    ensures modern { IsBox sharp_lines MODERN }
+    ensures modern_ends { HasEnds sharp_lines MODERN }
+    ensures rounded { IsBox round_lines ROUNDED }
+    ensures rounded_ends { HasEnds round_lines ROUNDED }
+    ensures sharp { IsBox sharp_lines SHARP }
+    ensures sharp_ends { HasEnds sharp_lines SHARP }
+    ensures extended { IsBox double_lines EXTENDED }
     ensures psql { IsMadeOf (codes "-") (codes "|") (dash_or_bar_or (codes "+")) PSQL }
     ensures markdown { IsMadeOf (codes "-") (codes "|") markdown_corner MARKDOWN }
     ensures re_structured_text { IsMadeOf (codes "=") (codes " ") re_structured_text_corner RE_STRUCTURED_TEXT }
@@ -112,6 +115,12 @@ pub fn texts_stand_whole()
 /// all round it. What stands there if one does, `texts_stand_whole` says.
 pub fn borders_are_those_of_the_owners()
     ensures { HoldsOfPictures HasBorders }
+{}
+
+/// In a style of box characters, as `styles_have_their_characters` says which are, each corner has just the arms of the
+/// borders that end there, unless a merged cell lies all round it.
+pub fn corners_of_boxes_have_their_arms()
+    ensures { HoldsOfPictures HasArmsAtCorners }
 {}
 
 /// No border ends at a corner: where a corner has one arm, it has another. An arm to the next corner is met by an arm of
