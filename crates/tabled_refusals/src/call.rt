@@ -46,6 +46,8 @@ pub(crate) enum Call {
     Duplicate,
     /// The first column without control characters, with two blanks for a tab.
     Charset,
+    /// A text without its control characters in the first cell.
+    CharsetClean,
     /// `x` on cells of the text `a`.
     ByContent,
     /// `x` on the columns named `b`.
@@ -76,6 +78,7 @@ impl Call {
             "vertical_panel" => Some(Call::VerticalPanel),
             "duplicate" => Some(Call::Duplicate),
             "charset" => Some(Call::Charset),
+            "charset_clean" => Some(Call::CharsetClean),
             "by_content" => Some(Call::ByContent),
             "by_column_name" => Some(Call::ByColumnName),
             "by_condition" => Some(Call::ByCondition),
@@ -180,6 +183,10 @@ impl Call {
                 Columns::first(),
                 Charset::new().clean().tab_size(2),
             ).change(alloc, records, cfg, &mut ()),
+            Call::CharsetClean => {
+                let text = Charset::charset_clean(alloc, "a_text\u{1}_of_more_than_15_bytes\r")?;
+                Modify::list(Cell::new(0, 0), text).change(alloc, records, cfg, &mut ())
+            }
             Call::ByContent => {
                 let text = String::from_str(alloc, "a")?;
                 Modify::list(Locator::content(text), TextRef("x")).change(

@@ -114,8 +114,11 @@ fn each_writer_writes_some_cells_alone(rt: HostRuntime) {
     assert!(rt; makes_flat(alloc, old, lines, new));
     let positioned = Modify::list(Rows::first(), Format::positioned(exclaimed_at));
     assert!(rt; makes_flat(alloc, old, positioned, new));
-    let duplicate = Dup::new(Columns::last(), Rows::first());
-    assert!(rt; makes_flat(alloc, "1 2 3 / 4 5 6 /", duplicate, "1 2 1 / 4 5 2 /"));
+    let digits = "1 2 3 / 4 5 6 /";
+    let last = Dup::new(Columns::last(), Rows::first());
+    assert!(rt; makes_flat(alloc, digits, last, "1 2 1 / 4 5 2 /"));
+    let first_two = Dup::new(Columns::new(0..2), Rows::first());
+    assert!(rt; makes_flat(alloc, digits, first_two, "1 1 3 / 2 2 6 /"));
 }
 
 #[test]

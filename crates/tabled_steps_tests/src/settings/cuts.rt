@@ -38,7 +38,8 @@ fn one_column_is_removed(rt: HostRuntime) {
         assert!(rt; makes_refusing(rt.alloc(), (1, 1), old, last, new), "{old}");
     }
     let second = Remove::column(Column::from(1));
-    assert!(rt; makes_flat(rt.alloc(), "a b c / d e f /", second, "a c / d f /"));
+    let old = "a b c / d e f / 0.0:1x3";
+    assert!(rt; makes_flat(rt.alloc(), old, second, "a c / d f /"));
 }
 
 /// Indexes that are told, whatever the table.
