@@ -34,7 +34,12 @@ fn lines_are_cut(rt: HostRuntime) {
         ("\u{4E2D}\u{6587}a", 2, false, "\u{4E2D}\n\u{6587}\na /"),
         ("\u{4E2D}\u{6587}a", 3, false, "\u{4E2D}\n\u{6587}a /"),
         ("\u{4E2D}a", 1, true, "\u{4E2D}\na /"),
-        ("\u{1F468}\u{200D}\u{1F469}a", 1, false, "\u{1F468}\u{200D}\u{1F469}\na /"),
+        (
+            "\u{1F468}\u{200D}\u{1F469}a",
+            1,
+            false,
+            "\u{1F468}\u{200D}\u{1F469}\na /",
+        ),
         ("\u{26A0}\u{FE0F} a", 2, true, "\u{26A0}\u{FE0F}\na /"),
         ("e\u{301}e\tf", 2, false, "e\u{301}e\n\tf /"),
         ("", 3, true, "_ /"),
