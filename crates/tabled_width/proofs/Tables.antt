@@ -173,3 +173,17 @@ modifiers_computed = refl
 
 pub modifier-lies : (c : ℕ) → is_modifier_kind (kind c) ≡ true → (0x1F3FB ≤ c) × (c ≤ 0x1F3FF)
 modifier-lies c is = value-lies is_modifier_kind 0x1F3FB 0x1F3FF kind_stepped.default 0 kind_stepped.steps c modifiers_computed (omega arith) (sym (ap is_modifier_kind (kind_value c)) ∙ is)
+
+tones_computed : passes_within is_modifier_kind kind_stepped.default kind_stepped.steps 0x1F3FB 0x1F400 ≡ true
+unfolding unicode_width passes_within
+tones_computed = refl
+
+pub modifier_kind : (c : ℕ) → 0x1F3FB ≤ c → c < 0x1F400 → is_modifier_kind (kind c) ≡ true
+modifier_kind c low high = ap is_modifier_kind (kind_value c) ∙ value-within is_modifier_kind kind_stepped.default kind_stepped.steps 0x1F3FB 0x1F400 c tones_computed low high
+
+halves_computed : passes_within is_indicator_kind kind_stepped.default kind_stepped.steps 0x1F1E6 0x1F200 ≡ true
+unfolding unicode_width passes_within
+halves_computed = refl
+
+pub indicator_kind : (c : ℕ) → 0x1F1E6 ≤ c → c < 0x1F200 → is_indicator_kind (kind c) ≡ true
+indicator_kind c low high = ap is_indicator_kind (kind_value c) ∙ value-within is_indicator_kind kind_stepped.default kind_stepped.steps 0x1F1E6 0x1F200 c halves_computed low high
