@@ -145,7 +145,7 @@ text-apart y high h = attaches-not y (record {
         let less : y < 0x1F400 = grind (arith, nat_tests) in
         absurd (two_kinds (kind y) (text_base-emoji y h) (modifier_kind y low less))
 
-selectors_attach : (attaches 0xFE0F ≡ true) × ((attaches 0xFE01 ≡ true) × (attaches 0xFE0E ≡ true))
+pub selectors_attach : (attaches 0xFE0F ≡ true) × ((attaches 0xFE01 ≡ true) × (attaches 0xFE0E ≡ true))
 unfolding unicode_width
 selectors_attach = (refl, (refl, refl))
 

@@ -1,7 +1,10 @@
 pub mod Alone
 pub mod BeforeLetters
+pub mod Begins
 mod Characters
 pub mod Clusters
+pub mod First
+pub mod Flags
 pub mod LigatureSteps
 pub mod Ligatures
 pub mod PieceTexts
