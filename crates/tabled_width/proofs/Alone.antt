@@ -1,6 +1,6 @@
 -- Characters by themselves: their columns, and how what follows them is read.
-use Rattle.std.proofs.Common.{[], ◌&&◌, ◌+◌, ◌<◌, ◌==◌, ◌∙◌, ◌∷◌, ◌≡◌, ◌≢◌, ◌≤◌, ◌⊎◌, ◌||◌, Bool, List, ap, arith, cond, false, inl, inr, nat_le, nat_lt, ne_eqb, not, refl, subst, sym, true, unwrap_or, ℕ}
-use Rattle.std.proofs.lemmas.Bool.{cases_Bool, cases_lt, false≢true}
+use Rattle.std.proofs.Common.{◌<◌, ◌∙◌, ◌≡◌, ◌≢◌, ◌≤◌, ◌⊎◌, ap, arith, false, inl, inr, refl, subst, sym, true, unwrap_or, ℕ}
+use Rattle.std.proofs.lemmas.Bool.{cases_lt, false≢true}
 use Rattle.std.proofs.lemmas.Bool.Decides.{nat_tests}
 use Rattle.std.specs.Int.{is_in_range}
 use Rattle.tabled_width.proofs.Tables.{is_still, transparent-still}
@@ -10,7 +10,6 @@ use Rattle.unicode_width.specs.Kind.{is_ligature_transparent, kind}
 use Rattle.unicode_width.specs.Width.{alone, char_width, of_kind, plain, single}
 use Rattle.unicode_width.specs.declared.kind.Kind.{Kind}
 use Rattle.unicode_width.specs.declared.kind.Kind.TheVariants as kinds
-use Rattle.unicode_width.specs.declared.state.State.{State}
 
 pub high-width : (c : ℕ) → 0xA0 < c → character_width c ≡ (alone false c).0
 unfolding char_width

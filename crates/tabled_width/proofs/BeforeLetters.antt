@@ -1,13 +1,12 @@
 -- A cluster before a ligature's letter: it takes other columns with it than apart, or is read as at the end of a line.
-use Rattle.std.proofs.Common.{[], ◌&&◌, ◌++◌, ◌+◌, ◌-◌, ◌<◌, ◌==◌, ◌∙◌, ◌∷◌, ◌≡◌, ◌≢◌, ◌≤◌, ◌⊎◌, Bool, List, ap, ap₂, arith, cond, false, inl, inr, nat_le, ne_eqb, not, refl, subst, sym, true, ℕ}
-use Rattle.std.proofs.lemmas.Bool.{cases_Bool, cases_lt, eqb-false, false≢true, lt-leb}
+use Rattle.std.proofs.Common.{[], ◌&&◌, ◌++◌, ◌+◌, ◌-◌, ◌<◌, ◌==◌, ◌∙◌, ◌∷◌, ◌≡◌, ◌≢◌, ◌≤◌, ◌⊎◌, Bool, List, ap, ap₂, arith, cond, false, inl, inr, nat_le, ne_eqb, refl, subst, sym, true, ℕ}
+use Rattle.std.proofs.lemmas.Bool.{cases_Bool, cases_lt, false≢true, lt-leb}
 use Rattle.std.specs.List.{AllByRecursion}
 use Rattle.tabled_width.proofs.Clusters.{IsKept, context-outcome, kept, state, without}
-use Rattle.tabled_width.proofs.Ligatures.{Agrees, Differs, Drops, Goes, IsJoining, Outcome, along, is_ligature}
-use Rattle.tabled_width.proofs.Reading.{cond-alike, read-append, read-shifted}
-use Rattle.tabled_width.specs.Columns.{text_width}
+use Rattle.tabled_width.proofs.Ligatures.{IsJoining, Outcome, along, is_ligature}
+use Rattle.tabled_width.proofs.Reading.{read-append, read-shifted}
 use Rattle.tabled_width.specs.Pieces.{attaches}
-use Rattle.unicode_width.specs.Width.{Reading, added, alone, before, if_kept, in_context, is_emoji_variation_base, is_joined_emoji, is_line_feed, is_nothing, is_plain, past_emoji, plain, read_before, step}
+use Rattle.unicode_width.specs.Width.{Reading, before, if_kept, in_context, is_emoji_variation_base, is_joined_emoji, past_emoji, plain, read_before, step}
 use Rattle.unicode_width.specs.declared.state.After.{After}
 use Rattle.unicode_width.specs.declared.state.After.TheVariants.{Emoji, LineFeed, Nothing}
 use Rattle.unicode_width.specs.declared.state.State.{State}
@@ -105,10 +104,12 @@ attached (z ∷ zs) s p h all = by (attached zs s p h all.1)
           with_it = λ n. ap (step false z) (still.with_it n) ∙ o.with_it (n + still.columns) ∙ ap (λ k. (k, o.joined)) (let e : n + still.columns + o.columns ≡ n + (still.columns + o.columns) = omega arith in e);
           without_it = λ n. ap (step false z) (still.without_it n) ∙ o.without (n + still.columns) ∙ ap (λ k. (k, o.unjoined)) (let e : n + still.columns + o.columns ≡ n + (still.columns + o.columns) = omega arith in e);
         }))
-        next (inr (inr (inl o))) = inr (inl (record { apart = λ n some xs e.
-            let less = ap (λ (r : Reading). (read_before false xs r).0) (ap (step false z) (still.with_it n) ∙ o.with_it (n + still.columns)) ∙ read-shifted xs (n + still.columns - 1) in
-            let more = ap (λ (r : Reading). (read_before false xs r).0) (ap (step false z) (still.without_it n) ∙ o.without (n + still.columns)) ∙ read-shifted xs (n + still.columns) in
-            omega (arith, sym less ∙ e ∙ more, some) }))
+        next (inr (inr (inl o))) = inr (inl (record {
+          apart = λ n some xs e.
+              let less = ap (λ (r : Reading). (read_before false xs r).0) (ap (step false z) (still.with_it n) ∙ o.with_it (n + still.columns)) ∙ read-shifted xs (n + still.columns - 1) in
+              let more = ap (λ (r : Reading). (read_before false xs r).0) (ap (step false z) (still.without_it n) ∙ o.without (n + still.columns)) ∙ read-shifted xs (n + still.columns) in
+              omega (arith, sym less ∙ e ∙ more, some);
+        }))
         next (inr (inr (inr o))) = absurd (false≢true (sym o.apart ∙ all.0))
 
 -- a cluster whose columns add up is read as at the end of a line

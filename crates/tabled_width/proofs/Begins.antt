@@ -1,17 +1,17 @@
 -- How a text is read whose first character begins a piece, whatever stands behind that.
-use Rattle.std.proofs.Common.{[], ◌&&◌, ◌+◌, ◌-◌, ◌<◌, ◌==◌, ◌∙◌, ◌∷◌, ◌≡◌, ◌≢◌, ◌≤◌, ◌⊎◌, ◌||◌, Bool, List, None, Option, Some, ap, arith, cond, eqb-true, false, inl, inr, nat_le, ne_eqb, not, refl, suc, subst, sym, true, zero, ℕ}
-use Rattle.std.proofs.lemmas.Bool.{and_parts, cases_Bool, cases_lt, cond_both, false≢true, lt-leb, not-true}
+use Rattle.std.proofs.Common.{◌&&◌, ◌<◌, ◌==◌, ◌∙◌, ◌≡◌, ◌≢◌, ◌≤◌, ◌⊎◌, Bool, None, Option, Some, ap, arith, eqb-true, false, inl, inr, nat_le, not, refl, suc, sym, true, zero, ℕ}
+use Rattle.std.proofs.lemmas.Bool.{and_parts, cases_lt, cond_both, false≢true, not-true}
 use Rattle.std.proofs.lemmas.Bool.Decides.{nat_tests}
 use Rattle.std.specs.Int.{is_in_range}
-use Rattle.tabled_width.proofs.Alone.{StandsAlone, transparent-zero}
+use Rattle.tabled_width.proofs.Alone.{transparent-zero}
 use Rattle.tabled_width.proofs.Clusters.{selectors_attach}
-use Rattle.tabled_width.proofs.First.{BeginsEmoji, BeginsFlag, BeginsLetter, BeginsVowel, First, IsAllowed, alone-first, attach-apart, joins-allowed, keycap_attaches, stands, wide}
+use Rattle.tabled_width.proofs.First.{First, IsAllowed, alone-first, attach-apart, joins-allowed, keycap_attaches, stands, wide}
 use Rattle.tabled_width.proofs.Ligatures.{buginese_vowel, tifinagh_joiner, zero_joiner}
 use Rattle.tabled_width.proofs.Tables.{is_zero_kind, tag-zero}
 use Rattle.tabled_width.specs.Pieces.{attaches}
 use Rattle.unicode_width.proofs.Computing.{unicode_width}
 use Rattle.unicode_width.specs.Kind.{is_ligature_transparent, is_text_presentation_base, kind}
-use Rattle.unicode_width.specs.Width.{Reading, added, alone, before, changed, if_kept, in_context, is_emoji_variation_base, is_joined_emoji, is_line_feed, is_plain, is_quote, joined_or, joins, of_kind, past_emoji, past_selectors, plain, skips_marks, step, with_joiner}
+use Rattle.unicode_width.specs.Width.{Reading, alone, before, if_kept, in_context, is_emoji_variation_base, is_line_feed, is_plain, is_quote, joined_or, joins, of_kind, past_emoji, past_selectors, skips_marks, step}
 use Rattle.unicode_width.specs.declared.kind.Kind.{Kind}
 use Rattle.unicode_width.specs.declared.kind.Kind.TheVariants as kinds
 use Rattle.unicode_width.specs.declared.state.After.{After}

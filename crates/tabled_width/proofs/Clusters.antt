@@ -1,20 +1,17 @@
 -- A cluster before a ligature's letter: it takes other columns with it than apart, or is read as at the end of a line.
-use Rattle.std.proofs.Common.{[], ◌&&◌, ◌++◌, ◌+◌, ◌-◌, ◌<◌, ◌==◌, ◌∙◌, ◌∷◌, ◌≡◌, ◌≢◌, ◌≤◌, ◌⊎◌, ◌||◌, Bool, List, None, Option, Some, ap, arith, cond, eqb-true, false, inl, inr, nat_le, nat_lt, ne_eqb, not, refl, subst, sym, true, ℕ}
-use Rattle.std.proofs.lemmas.Bool.{and_parts, cases_Bool, cases_lt, eqb-false, false≢true, or_cases}
-use Rattle.std.proofs.lemmas.Bool.Decides.{eqb_tells, nat_tests}
+use Rattle.std.proofs.Common.{◌&&◌, ◌+◌, ◌<◌, ◌==◌, ◌∙◌, ◌≡◌, ◌≤◌, ◌⊎◌, Bool, ap, arith, cond, eqb-true, false, inl, inr, ne_eqb, not, refl, subst, sym, true, ℕ}
+use Rattle.std.proofs.lemmas.Bool.{cases_Bool, cases_lt, eqb-false, false≢true, or_cases}
+use Rattle.std.proofs.lemmas.Bool.Decides.{nat_tests}
 use Rattle.std.specs.Int.{is_in_range}
-use Rattle.std.specs.List.{AllByRecursion}
-use Rattle.tabled_width.proofs.Alone.{IsNoSelector, StandsAlone, attaches-not, high-width, stands-alone, transparent-zero, zero-alone}
-use Rattle.tabled_width.proofs.Ligatures.{Agrees, Differs, Drops, Goes, IsJoining, Outcome, along, is_ligature}
+use Rattle.tabled_width.proofs.Alone.{IsNoSelector, attaches-not, high-width}
+use Rattle.tabled_width.proofs.Ligatures.{Outcome, along, is_ligature}
 use Rattle.tabled_width.proofs.LigatureSteps.{passes}
-use Rattle.tabled_width.proofs.Reading.{cond-alike, read-append, read-shifted}
 use Rattle.tabled_width.proofs.Tables.{is_emoji_kind, is_modifier_kind, modifier_kind, text_base-emoji}
 use Rattle.tabled_width.proofs.Untouched.{emoji_selector, no-more, quote_selector, text_selector}
-use Rattle.tabled_width.specs.Columns.{text_width}
-use Rattle.tabled_width.specs.Pieces.{attaches, character_width}
+use Rattle.tabled_width.specs.Pieces.{attaches}
 use Rattle.unicode_width.proofs.Computing.{unicode_width}
 use Rattle.unicode_width.specs.Kind.{is_text_presentation_base, kind}
-use Rattle.unicode_width.specs.Width.{Reading, added, alone, before, if_kept, in_context, is_emoji_variation_base, is_joined_emoji, is_kept, is_line_feed, is_nothing, is_plain, is_quote, joins, of_kind, past_emoji, past_selectors, plain, read_before, step}
+use Rattle.unicode_width.specs.Width.{Reading, added, alone, before, if_kept, in_context, is_joined_emoji, is_kept, is_line_feed, is_nothing, is_quote, joins, of_kind, past_selectors, plain}
 use Rattle.unicode_width.specs.declared.kind.Kind.{Kind}
 use Rattle.unicode_width.specs.declared.kind.Kind.TheVariants as kinds
 use Rattle.unicode_width.specs.declared.state.After.{After}

@@ -1,22 +1,22 @@
 -- How a text is read whose first character begins a piece: as at the end of a line, or as before an emoji, a flag, a vowel of Kirat Rai or a ligature's letter.
-use Rattle.std.proofs.Common.{[], ◌&&◌, ◌+◌, ◌-◌, ◌<◌, ◌==◌, ◌∙◌, ◌∷◌, ◌≡◌, ◌≢◌, ◌≤◌, ◌⊎◌, ◌||◌, Bool, List, None, Option, Some, ap, arith, cond, eqb-true, false, inl, inr, nat_le, ne_eqb, not, refl, subst, sym, true, ℕ}
-use Rattle.std.proofs.lemmas.Bool.{and_parts, cases_Bool, cases_lt, cond_both, false≢true, lt-leb}
+use Rattle.std.proofs.Common.{◌&&◌, ◌+◌, ◌<◌, ◌==◌, ◌∙◌, ◌≡◌, ◌≤◌, ◌⊎◌, Bool, None, Option, Some, ap, arith, cond, eqb-true, false, inl, inr, refl, sym, true, ℕ}
+use Rattle.std.proofs.lemmas.Bool.{cond_both, false≢true}
 use Rattle.std.proofs.lemmas.Bool.Decides.{nat_tests}
 use Rattle.std.specs.Int.{is_in_range}
-use Rattle.tabled_width.proofs.Alone.{StandsAlone, high-width, stands-alone, transparent-zero}
+use Rattle.tabled_width.proofs.Alone.{StandsAlone, high-width, stands-alone}
 use Rattle.tabled_width.proofs.Clusters.{selectors_attach}
-use Rattle.tabled_width.proofs.Ligatures.{buginese_vowel, is_ligature, tifinagh_joiner, zero_joiner}
-use Rattle.tabled_width.proofs.Tables.{indicator-lies, is_indicator_kind, is_modifier_kind, is_zero_kind, modifier-lies, tag-zero}
-use Rattle.tabled_width.specs.Pieces.{attaches, character_width, is_kirat_vowel}
+use Rattle.tabled_width.proofs.Ligatures.{is_ligature}
+use Rattle.tabled_width.proofs.Tables.{indicator-lies, is_indicator_kind, is_modifier_kind, modifier-lies}
+use Rattle.tabled_width.specs.Pieces.{attaches, is_kirat_vowel}
 use Rattle.unicode_width.proofs.Computing.{unicode_width}
-use Rattle.unicode_width.specs.Kind.{is_ligature_transparent, is_text_presentation_base, kind}
-use Rattle.unicode_width.specs.Width.{Reading, added, alone, before, before_alef, changed, if_kept, in_context, is_emoji_variation_base, is_indicator, is_joined_emoji, is_line_feed, is_plain, is_quote, joined_or, joins, of_kind, past_emoji, past_selectors, plain, single, skips_marks, step, with_joiner}
+use Rattle.unicode_width.specs.Kind.{kind}
+use Rattle.unicode_width.specs.Width.{Reading, added, alone, before, before_alef, is_emoji_variation_base, is_indicator, joins, of_kind, plain, single}
 use Rattle.unicode_width.specs.declared.kind.Kind.{Kind}
 use Rattle.unicode_width.specs.declared.kind.Kind.TheVariants as kinds
 use Rattle.unicode_width.specs.declared.state.After.{After}
 use Rattle.unicode_width.specs.declared.state.After.TheVariants.{Nothing, LineFeed, Emoji, Alef, Lamed, ZwjLamed, Ya, ZwjYa, VowelZwjYa, Tifinagh, ZwjTifinagh, JoinerTifinagh, LisuTone, OrkhonI, ZwjOrkhonI, KhmerLetter, EmojiModifier, RegionalIndicator, RegionalIndicators, ZwjEmoji, KeycapZwjEmoji, IndicatorZwj, EvenIndicatorsZwj, OddIndicatorsZwj, TagEnd, TagDigit1, TagDigit2, TagDigit3, TagLetter1, TagLetter2, TagLetter3, TagLetter4, TagLetter5, TagLetter6, KiratE, KiratAi, Solidus, SolidusAlef}
 use Rattle.unicode_width.specs.declared.state.Change.{Change}
-use Rattle.unicode_width.specs.declared.state.Change.TheVariants.{Less, Same, One, Three}
+use Rattle.unicode_width.specs.declared.state.Change.TheVariants.{Same, One, Three}
 use Rattle.unicode_width.specs.declared.state.State.{State}
 
 -- ---- what may stand behind a cut

@@ -1,22 +1,19 @@
 -- Flags before a flag: read in pairs, they take as many columns as at the end of a line.
-use Rattle.std.proofs.Common.{[], ◌&&◌, ◌++◌, ◌+◌, ◌-◌, ◌<◌, ◌==◌, ◌∙◌, ◌∷◌, ◌≡◌, ◌≢◌, ◌≤◌, ◌⊎◌, Bool, List, None, Option, Some, ap, arith, cond, eqb-true, false, inl, inr, length, length-append, nat_le, ne_eqb, not, refl, suc, subst, sym, true, zero, ℕ}
-use Rattle.std.proofs.lemmas.Bool.{and_parts, cases_Bool, eqb-false, false≢true, lt-leb, not-true}
+use Rattle.std.proofs.Common.{[], ◌&&◌, ◌++◌, ◌+◌, ◌-◌, ◌<◌, ◌==◌, ◌∙◌, ◌∷◌, ◌≡◌, ◌≢◌, ◌≤◌, ◌⊎◌, Bool, List, None, ap, arith, eqb-true, false, inl, inr, length, length-append, nat_le, ne_eqb, not, refl, suc, subst, sym, true, zero, ℕ}
+use Rattle.std.proofs.lemmas.Bool.{cases_Bool, eqb-false, false≢true, lt-leb}
 use Rattle.std.proofs.lemmas.Bool.Decides.{nat_tests}
-use Rattle.std.specs.Int.{is_in_range}
 use Rattle.tabled_width.proofs.First.{is_flag}
 use Rattle.tabled_width.proofs.Reading.{read-append}
-use Rattle.tabled_width.proofs.Scanning.{more-half, more-last}
+use Rattle.tabled_width.proofs.Scanning.{more-half}
 use Rattle.tabled_width.proofs.Tables.{indicator_kind, is_indicator_kind}
 use Rattle.tabled_width.proofs.Untouched.{IsBare, same-step}
-use Rattle.tabled_width.specs.Pieces.{ends_in_half_a_flag, last_of}
+use Rattle.tabled_width.specs.Pieces.{ends_in_half_a_flag}
 use Rattle.unicode_width.specs.Kind.{kind}
 use Rattle.unicode_width.specs.Width.{Reading, added, alone, before, in_context, is_indicator, joined_or, joins, of_kind, past_emoji, past_selectors, plain, read_before, step}
 use Rattle.unicode_width.specs.declared.kind.Kind.{Kind}
 use Rattle.unicode_width.specs.declared.kind.Kind.TheVariants as kinds
 use Rattle.unicode_width.specs.declared.state.After.{After}
 use Rattle.unicode_width.specs.declared.state.After.TheVariants.{Nothing, LineFeed, Emoji, Alef, Lamed, ZwjLamed, Ya, ZwjYa, VowelZwjYa, Tifinagh, ZwjTifinagh, JoinerTifinagh, LisuTone, OrkhonI, ZwjOrkhonI, KhmerLetter, EmojiModifier, RegionalIndicator, RegionalIndicators, ZwjEmoji, KeycapZwjEmoji, IndicatorZwj, EvenIndicatorsZwj, OddIndicatorsZwj, TagEnd, TagDigit1, TagDigit2, TagDigit3, TagLetter1, TagLetter2, TagLetter3, TagLetter4, TagLetter5, TagLetter6, KiratE, KiratAi, Solidus, SolidusAlef}
-use Rattle.unicode_width.specs.declared.state.Change.{Change}
-use Rattle.unicode_width.specs.declared.state.Change.TheVariants.{Less, Same, One, Three}
 
 -- ---- a list and its last element
 
@@ -89,7 +86,7 @@ step-bare b bare y past n =
     let above : nat_le y 0xA0 ≡ false = lt-leb y 0xA0 past.high in
     rw (feed, back, above, bare.something, ne_eqb y 0xFE0F past.no_emoji, ne_eqb y 0xFE01 past.no_quote, ne_eqb y 0xFE0E past.no_text, bare.no_skips) refl
 
-step-plain : (y : ℕ) → 0xA0 < y → (n : ℕ) → step false y (n, plain) ≡ added n (alone false y)
+pub step-plain : (y : ℕ) → 0xA0 < y → (n : ℕ) → step false y (n, plain) ≡ added n (alone false y)
 unfolding step past_emoji
 step-plain y high n =
     let feed : (y == 0x0A) ≡ false = ne_eqb y 0x0A (λ e. omega (arith, e, high)) in
@@ -422,4 +419,3 @@ flags-same front y is half b flag n some =
     (ap (λ (r : Reading). r.0) (read-pair t.front t.first t.second (n, before b) ∙ ap (read_before false t.front) l.step_is)
     ∙ alike (length t.front) t.front (omega arith) t.even l.after RegionalIndicators l.whole refl (n + 2) (omega arith)
     ∙ ap (λ (r : Reading). r.0) (sym (read-pair t.front t.first t.second (n, plain) ∙ ap (read_before false t.front) (whole-plain t.first t.second t.is_first t.is_second n))))
-

@@ -1,8 +1,10 @@
 pub mod Alone
 pub mod BeforeLetters
 pub mod Begins
+pub mod Chains
 mod Characters
 pub mod Clusters
+pub mod Cuts
 pub mod First
 pub mod Flags
 pub mod LigatureSteps

@@ -1,19 +1,17 @@
 -- What a character before a ligature's letter may come to.
-use Rattle.std.proofs.Common.{[], ◌&&◌, ◌++◌, ◌+◌, ◌-◌, ◌<◌, ◌==◌, ◌∙◌, ◌∷◌, ◌≡◌, ◌≢◌, ◌≤◌, ◌⊎◌, ◌||◌, Bool, List, None, Option, Some, ap, arith, cond, eqb-true, false, inl, inr, nat_le, nat_lt, ne_eqb, not, refl, subst, sym, true, ℕ}
-use Rattle.std.proofs.lemmas.Bool.{and_parts, cases_Bool, cases_lt, eqb-false, false≢true, or_cases}
-use Rattle.std.proofs.lemmas.Bool.Decides.{eqb_tells, nat_tests}
+use Rattle.std.proofs.Common.{◌&&◌, ◌<◌, ◌==◌, ◌∙◌, ◌≡◌, ◌≢◌, ◌⊎◌, Bool, None, Some, ap, arith, cond, eqb-true, false, inl, inr, refl, subst, sym, true, ℕ}
+use Rattle.std.proofs.lemmas.Bool.{and_parts, cases_Bool, false≢true, or_cases}
+use Rattle.std.proofs.lemmas.Bool.Decides.{nat_tests}
 use Rattle.std.specs.Int.{is_in_range}
-use Rattle.tabled_width.proofs.Alone.{IsNoSelector, StandsAlone, attaches-not, high-width, stands-alone, transparent-zero, zero-alone}
-use Rattle.tabled_width.proofs.Ligatures.{Agrees, Differs, Drops, Ends, Goes, IsJoining, Outcome, along, buginese_vowel, ends-goes, ends-if, ends-less, ends-none, ends-same, is_ligature, joining-before, lam-apart, lam-no_tone, not_lams, tifinagh_joiner, zero_joiner}
+use Rattle.tabled_width.proofs.Alone.{IsNoSelector, high-width, transparent-zero, zero-alone}
+use Rattle.tabled_width.proofs.Ligatures.{Ends, Outcome, along, buginese_vowel, ends-goes, ends-if, ends-less, ends-none, ends-same, is_ligature, joining-before, lam-apart, lam-no_tone, not_lams, tifinagh_joiner, zero_joiner}
 use Rattle.tabled_width.proofs.Untouched.{no-more}
-use Rattle.tabled_width.specs.Pieces.{attaches, character_width}
+use Rattle.tabled_width.specs.Pieces.{attaches}
 use Rattle.unicode_width.specs.Kind.{is_ligature_transparent}
-use Rattle.unicode_width.specs.Width.{Reading, added, alone, before, before_alef, changed, first_of, in_ligature, is_lam, is_tifinagh, joined_or, joins, past_selectors, plain, skips_marks, with_joiner}
+use Rattle.unicode_width.specs.Width.{added, alone, before, before_alef, first_of, is_lam, is_tifinagh, joined_or, joins, past_selectors, plain, skips_marks, with_joiner}
 use Rattle.unicode_width.specs.declared.state.After.{After}
 use Rattle.unicode_width.specs.declared.state.After.TheVariants.{Nothing, Alef, Lamed, ZwjLamed, Ya, ZwjYa, VowelZwjYa, Tifinagh, ZwjTifinagh, JoinerTifinagh, LisuTone, OrkhonI, ZwjOrkhonI, KhmerLetter, LineFeed, EmojiModifier, RegionalIndicator, RegionalIndicators, Emoji, ZwjEmoji, KeycapZwjEmoji, IndicatorZwj, EvenIndicatorsZwj, OddIndicatorsZwj, TagEnd, TagDigit1, TagDigit2, TagDigit3, TagLetter1, TagLetter2, TagLetter3, TagLetter4, TagLetter5, TagLetter6, KiratE, KiratAi, Solidus, SolidusAlef}
-use Rattle.unicode_width.specs.declared.state.Change.{Change}
 use Rattle.unicode_width.specs.declared.state.Change.TheVariants.{Less, Same, One}
-use Rattle.unicode_width.specs.declared.state.State.{State}
 
 module _ (y : ℕ) (high : 0xA0 < y) (free : IsNoSelector y) where
   -- at one character, which neither joins letters of Tifinagh nor is a tone

@@ -1,18 +1,17 @@
 -- A letter may join those before it: where a cluster before takes as many columns with it as apart, it does not.
-use Rattle.std.proofs.Common.{[], ◌&&◌, ◌++◌, ◌+◌, ◌-◌, ◌<◌, ◌==◌, ◌∙◌, ◌∷◌, ◌≡◌, ◌≢◌, ◌≤◌, ◌⊎◌, ◌||◌, Bool, List, None, Option, Some, add-zero, ap, arith, cond, eqb-true, false, inl, inr, nat_le, nat_lt, ne_eqb, not, refl, subst, sym, true, ℕ}
-use Rattle.std.proofs.lemmas.Bool.{and_parts, cases_Bool, cases_lt, cond_both, eqb-false, false≢true, or_cases}
+use Rattle.std.proofs.Common.{◌+◌, ◌-◌, ◌<◌, ◌==◌, ◌∙◌, ◌≡◌, ◌≢◌, ◌≤◌, ◌⊎◌, Bool, None, Option, Some, ap, arith, cond, eqb-true, false, inl, inr, refl, sym, true, ℕ}
+use Rattle.std.proofs.lemmas.Bool.{cases_lt, false≢true}
 use Rattle.std.proofs.lemmas.Bool.Decides.{eqb_tells, nat_tests}
 use Rattle.std.specs.Int.{is_in_range}
-use Rattle.tabled_width.proofs.Alone.{IsNoSelector, StandsAlone, attaches-not, high-width, stands-alone, transparent-zero, zero-alone}
+use Rattle.tabled_width.proofs.Alone.{IsNoSelector, attaches-not, high-width, zero-alone}
 use Rattle.tabled_width.proofs.Untouched.{no-more}
-use Rattle.tabled_width.specs.Pieces.{attaches, character_width}
+use Rattle.tabled_width.specs.Pieces.{attaches}
 use Rattle.unicode_width.proofs.Computing.{unicode_width}
-use Rattle.unicode_width.specs.Kind.{is_ligature_transparent}
-use Rattle.unicode_width.specs.Width.{Reading, added, alone, before, before_alef, changed, first_of, in_ligature, is_lam, is_tifinagh, joined_or, joins, past_selectors, plain, skips_marks, with_joiner}
+use Rattle.unicode_width.specs.Width.{Reading, added, alone, before, changed, is_lam, joined_or, plain}
 use Rattle.unicode_width.specs.declared.state.After.{After}
 use Rattle.unicode_width.specs.declared.state.After.TheVariants.{Nothing, Alef, Lamed, ZwjLamed, Ya, ZwjYa, VowelZwjYa, Tifinagh, ZwjTifinagh, JoinerTifinagh, LisuTone, OrkhonI, ZwjOrkhonI, KhmerLetter}
 use Rattle.unicode_width.specs.declared.state.Change.{Change}
-use Rattle.unicode_width.specs.declared.state.Change.TheVariants.{Less, Same, One}
+use Rattle.unicode_width.specs.declared.state.Change.TheVariants.{Less, Same}
 use Rattle.unicode_width.specs.declared.state.State.{State}
 
 abbrev pub is_ligature : After → Bool

@@ -1,13 +1,11 @@
 -- A character that doesn't join what follows is read as at the end of a line.
-use Rattle.std.proofs.Common.{[], ◌&&◌, ◌+◌, ◌<◌, ◌==◌, ◌∙◌, ◌∷◌, ◌≡◌, ◌≢◌, ◌≤◌, ◌⊎◌, ◌||◌, Bool, List, None, Option, Some, ap, arith, cond, eqb-true, false, inl, inr, nat_le, ne_eqb, not, refl, subst, sym, true, ℕ}
-use Rattle.std.proofs.lemmas.Bool.{cases_Bool, cases_lt, cond_both, false≢true}
-use Rattle.std.proofs.lemmas.Bool.Decides.{nat_tests}
+use Rattle.std.proofs.Common.{◌&&◌, ◌+◌, ◌==◌, ◌∙◌, ◌≡◌, ◌⊎◌, Bool, None, ap, arith, cond, eqb-true, false, inl, inr, nat_le, refl, sym, true, ℕ}
+use Rattle.std.proofs.lemmas.Bool.{cases_Bool, cond_both}
 use Rattle.unicode_width.proofs.Computing.{unicode_width}
-use Rattle.unicode_width.specs.Width.{Reading, added, alone, before, if_kept, in_context, in_emoji, in_ligature, in_tags, is_indicator, is_joined_emoji, is_kept, is_line_feed, is_nothing, is_plain, is_quote, joined_or, joins, past_emoji, past_selectors, plain, skips_marks, step}
+use Rattle.unicode_width.specs.Width.{added, alone, before, if_kept, in_context, is_joined_emoji, is_kept, is_line_feed, is_nothing, is_plain, joins, past_emoji, past_selectors, plain, skips_marks, step}
 use Rattle.unicode_width.specs.declared.state.After.{After}
-use Rattle.unicode_width.specs.declared.state.After.TheVariants.{Nothing, LineFeed, EmojiModifier, RegionalIndicator, RegionalIndicators, Emoji, ZwjEmoji, IndicatorZwj, EvenIndicatorsZwj, OddIndicatorsZwj, KiratE, KiratAi}
+use Rattle.unicode_width.specs.declared.state.After.TheVariants.{LineFeed}
 use Rattle.unicode_width.specs.declared.state.State.{State}
-use Rattle.unicode_width.specs.Kind.{is_ligature_transparent, is_text_presentation_base}
 
 -- selectors by themselves
 pub emoji_selector : alone false 0xFE0F ≡ (0, record plain { emoji = true })

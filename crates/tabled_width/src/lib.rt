@@ -2,6 +2,7 @@
 #![tactic(auto)]
 
 mod columns;
+pub mod laws;
 mod pieces;
 mod widest;
 mod wrapping;
