@@ -1,5 +1,6 @@
--- The characters of boxes, and their arms, as Unicode names them: BOX DRAWINGS LIGHT VERTICAL AND RIGHT has arms up, down
--- and right. Beside each stands what follows LIGHT, ARC or DOUBLE in its name.
+-- The arms of box characters, by their names in Unicode.
+-- BOX DRAWINGS LIGHT VERTICAL AND RIGHT, say, has arms up, down and right. Beside each character stands what follows
+-- LIGHT, ARC or DOUBLE in its name.
 use Rattle.std.specs.Prelude.{◌==◌, ◌||◌, ◌++◌, if◌then◌else◌, ℕ, List, [], ◌∷◌, false, true}
 use Rattle.tabled_draw.specs.Borders.{Arms}
 
