@@ -1,73 +1,91 @@
--- Texts as cells of Markdown have them, and what is read back.
-use Rattle.std.proofs.lemmas.Grind.{flat_map-append}
-use Rattle.std.proofs.Common.{le-ltb, ltb, ltb-true}
-use Rattle.std.specs.Char.{is_ascii_punctuation}
-use Rattle.std.specs.List.{flat_map}
-use Rattle.std.specs.Prelude.{codes}
-use Rattle.tabled_draw.proofs.Common.{[], ◌%◌, ◌++◌, ◌+◌, ◌/◌, ◌<◌, ◌||◌, ◌∙◌, ◌∷◌, ◌≡◌, ◌≢◌, ◌≤◌, AllByRecursion, Bool, List, Some, ap, append_assoc, arith, common_steps, cond, encode_ascii, encode_utf8, eqb, eqb-true, false, false≢true, ltb-false, ne_eqb, refl, sym, true, ℕ}
-use Rattle.tabled_draw.specs.Markdown.{before, escaped, escaped_byte, needs_backslash, read_cell}
+-- What stands for texts in Markdown, character by character.
+use Rattle.std.proofs.Common.{lit<, ◌^◌}
+use Rattle.std.proofs.lemmas.Fmt.{IsAscii-decimal}
+use Rattle.std.proofs.lemmas.Str.{chars_from_encodes, encodes-IsAscii}
+use Rattle.std.specs.Fmt.{decimal}
+use Rattle.std.specs.Prelude.{Err, Ok, OnOk, Result, chars, codes, is_ok}
+use Rattle.tabled_draw.proofs.Common.{[], AllByRecursion, Grid, IsUtf8, List, Position, Rectangle, ap, ap₂, append-nil, append_assoc, arith, chars-nil, chars_past_char, cond, encode_ascii, encode_utf8, encode_utf8_all, encodes-append, eqb, false, refl, sym, true, ℕ, ◌++◌, ◌<◌, ◌∙◌, ◌∷◌, ◌≡◌, ◌≢◌, ne_eqb}
+use Rattle.tabled_grid.specs.Anchors.{is_hidden_in}
+use Rattle.tabled_draw.specs.Markdown.{cell_apart, escape, escaped, escaped_behind, is_markup, is_numbered}
 
--- ---- what is written
+-- what a call has appended, if it is done
+pub appended-if-ok : {T E : Type 0} (r : Result T E) (old new more wanted : List ℕ) → new ≡ cond (is_ok r) (old ++ more) old → more ≡ wanted → OnOk r (new ≡ old ++ wanted)
+appended-if-ok (Ok x) old new more wanted is same = is ∙ ap (λ bs. old ++ bs) same
+appended-if-ok (Err e) old new more wanted is same = tt
 
-escaped_high : (b : ℕ) → 128 ≤ b → escaped_byte b ≡ b ∷ []
-escaped_high b h = rw (ne_eqb b 10 (λ e. omega (arith, h, e)), ne_eqb b 92 (λ e. omega (arith, h, e)), ne_eqb b 124 (λ e. omega (arith, h, e)), ne_eqb b 60 (λ e. omega (arith, h, e))) refl
+-- the same, where what is wanted is known to be appended
+pub number-appended : {T E : Type 0} (r : Result T E) (old new more wanted : List ℕ) → more ≡ wanted → OnOk r (new ≡ old ++ more) → OnOk r (new ≡ old ++ wanted)
+number-appended (Ok x) old new more wanted same is = is ∙ ap (λ bs. old ++ bs) same
+number-appended (Err e) old new more wanted same is = tt
 
-all_high : (bs : List ℕ) → AllByRecursion (λ b. 128 ≤ b) bs → flat_map escaped_byte bs ≡ bs
-all_high [] h = refl
-all_high (b ∷ bs) h = rw (escaped_high b h.0, all_high bs h.1) refl
+encodes-low : (bs : List ℕ) → AllByRecursion (λ b. b < 128) bs → encode_utf8_all bs ≡ bs
+encodes-low [] low = refl
+encodes-low (b ∷ bs) low = ap₂ (λ x xs. x ++ xs) (encode_ascii b low.0) (encodes-low bs low.1)
 
-encode_high : (c : ℕ) → 128 ≤ c → AllByRecursion (λ b. 128 ≤ b) (encode_utf8 c)
-unfolding lib.Utf8.encode
-encode_high c h = rw (le-ltb c 128 h) (by (ltb c 2048) (ltb c 65536))
-  where
-    by : (two three : Bool) → AllByRecursion (λ b. 128 ≤ b) (cond two ((192 + c / 64) ∷ (128 + c % 64) ∷ []) (cond three ((224 + c / 4096) ∷ (128 + (c / 64) % 64) ∷ (128 + c % 64) ∷ []) ((240 + c / 262144) ∷ (128 + (c / 4096) % 64) ∷ (128 + (c / 64) % 64) ∷ (128 + c % 64) ∷ [])))
-    by true three = (omega arith, (omega arith, tt))
-    by false true = (omega arith, (omega arith, (omega arith, tt)))
-    by false false = (omega arith, (omega arith, (omega arith, (omega arith, tt))))
+-- ---- what stands for a character
 
-mark-before : (c n : ℕ) → c ≡ n → n < 128 → escaped_byte n ≡ 92 ∷ n ∷ [] → 92 ∷ encode_utf8 c ≡ flat_map escaped_byte (encode_utf8 c)
-mark-before c n e less is = rw (e, encode_ascii n less, is) refl
+pub escape-break : (before c after : ℕ) → c ≡ 10 → codes "<br>" ≡ encode_utf8_all (escape before c after)
+unfolding escape
+escape-break before c after is = sym (encodes-low (codes "<br>") (lit< tt, (lit< tt, (lit< tt, (lit< tt, tt))))) ∙ ap (λ k. encode_utf8_all (escape before k after)) (sym is)
 
--- a character that needs a backslash has one
-pub escaped-mark : (c : ℕ) → needs_backslash c ≡ true → 92 ∷ encode_utf8 c ≡ flat_map escaped_byte (encode_utf8 c)
-escaped-mark c = go (eqb c 92) (eqb c 124) (eqb c 60) refl refl refl
-  where
-    go : (s m l : Bool) → eqb c 92 ≡ s → eqb c 124 ≡ m → eqb c 60 ≡ l → (s || (m || l)) ≡ true → 92 ∷ encode_utf8 c ≡ flat_map escaped_byte (encode_utf8 c)
-    go true m l es em el is = mark-before c 92 (eqb-true c 92 es) (omega arith) refl
-    go false true l es em el is = mark-before c 124 (eqb-true c 124 em) (omega arith) refl
-    go false false true es em el is = mark-before c 60 (eqb-true c 60 el) (omega arith) refl
-    go false false false es em el is = absurd (false≢true is)
+pub escape-ampersand : (before c after : ℕ) → c ≡ 38 → codes "&amp;" ≡ encode_utf8_all (escape before c after)
+unfolding escape
+escape-ampersand before c after is = sym (encodes-low (codes "&amp;") (lit< tt, (lit< tt, (lit< tt, (lit< tt, (lit< tt, tt)))))) ∙ ap (λ k. encode_utf8_all (escape before k after)) (sym is)
 
--- another one stands as it is, unless it is a newline
-pub escaped-plain : (c : ℕ) → c ≢ 10 → needs_backslash c ≡ false → encode_utf8 c ≡ flat_map escaped_byte (encode_utf8 c)
-escaped-plain c n m = by (ltb c 128) refl
-  where
-    by : (b : Bool) → ltb c 128 ≡ b → encode_utf8 c ≡ flat_map escaped_byte (encode_utf8 c)
-    by true e = rw (encode_ascii c (ltb-true c 128 e), ne_eqb c 10 n, m) refl
-    by false e = sym (all_high (encode_utf8 c) (encode_high c (ltb-false c 128 e)))
+pub escape-less : (before c after : ℕ) → c ≡ 60 → codes "&lt;" ≡ encode_utf8_all (escape before c after)
+unfolding escape
+escape-less before c after is = sym (encodes-low (codes "&lt;") (lit< tt, (lit< tt, (lit< tt, (lit< tt, tt))))) ∙ ap (λ k. encode_utf8_all (escape before k after)) (sym is)
 
--- one more character
-pub escaped-more : (c : ℕ) (out rest whole all : List ℕ) → whole ≡ encode_utf8 c ++ rest → out ++ escaped whole ≡ all → (out ++ flat_map escaped_byte (encode_utf8 c)) ++ escaped rest ≡ all
-escaped-more c out rest whole all e same = grind (arith, common_steps, append_assoc, flat_map-append)
+pub escape-number : (before c after : ℕ) → c ≢ 10 → c ≢ 38 → c ≢ 60 → is_numbered before c after ≡ true → c < 2 ^ 64 → codes "&#" ++ (decimal c ++ codes ";") ≡ encode_utf8_all (escape before c after)
+unfolding escape
+escape-number before c after newline ampersand less numbered small =
+    rw (ne_eqb c 10 newline, ne_eqb c 38 ampersand, ne_eqb c 60 less, numbered)
+    (sym (encodes-append (codes "&#") (decimal c ++ codes ";") ∙ ap₂ (λ x y. x ++ y) (encodes-low (codes "&#") (lit< tt, (lit< tt, tt))) (encodes-append (decimal c) (codes ";") ∙ ap₂ (λ x y. x ++ y) (encodes-IsAscii (decimal c) (IsAscii-decimal c small)) (encodes-low (codes ";") (lit< tt, tt)))))
 
--- ---- what is read back
+pub escape-mark : (before c after : ℕ) → c ≢ 10 → c ≢ 38 → c ≢ 60 → is_numbered before c after ≡ false → is_markup before c after ≡ true → encode_utf8 92 ++ encode_utf8 c ≡ encode_utf8_all (escape before c after)
+unfolding escape
+escape-mark before c after newline ampersand less numbered markup =
+    rw (ne_eqb c 10 newline, ne_eqb c 38 ampersand, ne_eqb c 60 less, numbered, markup) (ap (λ bs. encode_utf8 92 ++ bs) (sym (append-nil (encode_utf8 c))))
 
-read-plain : (b : ℕ) (bs : List ℕ) → eqb b 10 ≡ false → eqb b 92 ≡ false → eqb b 124 ≡ false → eqb b 60 ≡ false → read_cell (b ∷ bs) ≡ before b (read_cell bs)
-read-plain b bs n s m l = rw (s, l, n, m) refl
+-- two characters are appended, the second if it is done
+pub both-appended : {T E : Type 0} (r : Result T E) (old mid new first second wanted : List ℕ) → mid ≡ old ++ first → new ≡ cond (is_ok r) (mid ++ second) mid → first ++ second ≡ wanted → OnOk r (new ≡ old ++ wanted)
+both-appended (Ok x) old mid new first second wanted one is same = is ∙ ap (λ bs. bs ++ second) one ∙ append_assoc old first second ∙ ap (λ bs. old ++ bs) same
+both-appended (Err e) old mid new first second wanted one is same = tt
 
-read-mark : (b : ℕ) (bs : List ℕ) → is_ascii_punctuation b ≡ true → read_cell (92 ∷ b ∷ bs) ≡ before b (read_cell bs)
-read-mark b bs is = rw is refl
+pub escape-plain : (before c after : ℕ) → c ≢ 10 → c ≢ 38 → c ≢ 60 → is_numbered before c after ≡ false → is_markup before c after ≡ false → encode_utf8 c ≡ encode_utf8_all (escape before c after)
+unfolding escape
+escape-plain before c after newline ampersand less numbered markup =
+    rw (ne_eqb c 10 newline, ne_eqb c 38 ampersand, ne_eqb c 60 less, numbered, markup) (sym (append-nil (encode_utf8 c)))
 
-read-byte : (b : ℕ) (bs : List ℕ) → read_cell (escaped_byte b ++ bs) ≡ before b (read_cell bs)
-read-byte b bs = go (eqb b 10) (eqb b 92) (eqb b 124) (eqb b 60) refl refl refl refl
-  where
-    go : (n s m l : Bool) → eqb b 10 ≡ n → eqb b 92 ≡ s → eqb b 124 ≡ m → eqb b 60 ≡ l → read_cell (cond n (codes "<br>") (cond (s || (m || l)) (92 ∷ b ∷ []) (b ∷ [])) ++ bs) ≡ before b (read_cell bs)
-    go true s m l en es em el = ap (λ c. before c (read_cell bs)) (sym (eqb-true b 10 en))
-    go false true m l en es em el = read-mark b bs (ap is_ascii_punctuation (eqb-true b 92 es))
-    go false false true l en es em el = read-mark b bs (ap is_ascii_punctuation (eqb-true b 124 em))
-    go false false false true en es em el = read-mark b bs (ap is_ascii_punctuation (eqb-true b 60 el))
-    go false false false false en es em el = read-plain b bs en es em el
+-- ---- what stands for a text
 
-pub read-escaped : (text : List ℕ) → read_cell (escaped text) ≡ Some text
-read-escaped [] = refl
-read-escaped (b ∷ bs) = read-byte b (escaped bs) ∙ ap (before b) (read-escaped bs)
+module _ (out new all : List ℕ) (before here after : ℕ) (whole rest : List ℕ) where
+  -- one more character
+  pub text-more : IsUtf8 whole → whole ≡ encode_utf8 after ++ rest → new ≡ out ++ encode_utf8_all (escape before here after) → out ++ encode_utf8_all (escaped_behind before (here ∷ chars whole)) ≡ all
+      → new ++ encode_utf8_all (escaped_behind here (after ∷ chars rest)) ≡ all
+  text-more utf8 step is same =
+      ap (λ bs. bs ++ encode_utf8_all (escaped_behind here (after ∷ chars rest))) is
+      ∙ append_assoc out (encode_utf8_all (escape before here after)) (encode_utf8_all (escaped_behind here (after ∷ chars rest)))
+      ∙ ap (λ bs. out ++ bs) (sym (encodes-append (escape before here after) (escaped_behind here (after ∷ chars rest))))
+      ∙ ap (λ cs. out ++ encode_utf8_all (escaped_behind before (here ∷ cs))) (sym (chars_past_char whole rest after utf8 step))
+      ∙ same
+
+-- the last character
+pub text-last : {T E : Type 0} (r : Result T E) (out new all : List ℕ) (before here : ℕ) (rest : List ℕ) → rest ≡ [] → OnOk r (new ≡ out ++ encode_utf8_all (escape before here 10)) → out ++ encode_utf8_all (escaped_behind before (here ∷ chars rest)) ≡ all → OnOk r (new ≡ all)
+text-last (Err e) out new all before here rest none is same = tt
+text-last (Ok x) out new all before here rest none is same =
+    is ∙ ap (λ cs. out ++ encode_utf8_all cs) (sym (append-nil (escape before here 10)))
+    ∙ ap (λ cs. out ++ encode_utf8_all (escaped_behind before (here ∷ cs))) (sym (ap chars none ∙ chars-nil))
+    ∙ same
+
+-- the first character
+pub text-first : (out text rest : List ℕ) (here : ℕ) → IsUtf8 text → text ≡ encode_utf8 here ++ rest → out ++ encode_utf8_all (escaped_behind 10 (here ∷ chars rest)) ≡ out ++ encode_utf8_all (escaped text)
+text-first out text rest here utf8 step = ap (λ cs. out ++ encode_utf8_all (escaped_behind 10 cs)) (sym (chars_past_char text rest here utf8 step))
+
+pub text-none : (out text : List ℕ) → text ≡ [] → out ≡ out ++ encode_utf8_all (escaped text)
+text-none out text none = sym (ap (λ cs. out ++ encode_utf8_all (escaped_behind 10 cs)) (ap chars none ∙ chars-nil) ∙ append-nil out)
+
+-- ---- what stands for a cell
+
+pub hidden-apart : (g : Grid (List ℕ)) (es : List Rectangle) (p : Position) → is_hidden_in es p ≡ true → [] ≡ cell_apart g es p
+hidden-apart g es p hidden = rw hidden refl

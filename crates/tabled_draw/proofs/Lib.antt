@@ -10,7 +10,7 @@ pub mod Fine
 pub mod Fitting
 pub mod LawLines
 pub mod LawPicture
-pub mod OneLine
+pub mod MarkdownLines
 pub mod Order
 pub mod Owned
 pub mod Pens

@@ -68,11 +68,15 @@ module _ {W : Type 0} {contents : W → Option (List ℕ)} where
   pub draws-byte : {a b : Pen W} (c : ℕ) → c < 128 → Sends contents a b (c ∷ []) → Draws contents a b (c ∷ [])
   draws-byte c low = draws-repeat 1 c low
 
+  pub draws-aligned : {a b c d e f : Pen W} (alignment : Alignment) (space free before after : ℕ) (line shown : List ℕ) → line ≡ shown → free ≡ space - text_width line → before ≡ indent alignment free → after ≡ free - before
+      → Draws contents a b (32 ∷ []) → Draws contents b c (replicate before 32) → Draws contents c d line → Draws contents d e (replicate after 32) → Draws contents e f (32 ∷ []) → Draws contents a f (aligned alignment space shown)
+  draws-aligned alignment space free before after line shown is many indents rest first second third fourth fifth =
+      draws-as (ap₂ (λ x y. x ++ (line ++ y)) (replicate-append-replicate 1 before 32 ∙ ap (λ n. replicate n 32) (let e : 1 + before ≡ before + 1 = omega arith in e)) (replicate-append-replicate after 1 32) ∙ aligned-is alignment space free before after line shown is many indents rest)
+      (draws-then (draws-then first second) (draws-then third (draws-then fourth fifth)))
+
   pub draws-cell : {a b c d e f : Pen W} (alignment : Alignment) (text : List ℕ) (space free before after : ℕ) (line : List ℕ) → line ≡ first_line text → free ≡ space - text_width line → before ≡ indent alignment free → after ≡ free - before
       → Draws contents a b (32 ∷ []) → Draws contents b c (replicate before 32) → Draws contents c d line → Draws contents d e (replicate after 32) → Draws contents e f (32 ∷ []) → Draws contents a f (cell alignment space text 0)
-  draws-cell alignment text space free before after line is many indents rest first second third fourth fifth =
-      draws-as (ap₂ (λ x y. x ++ (line ++ y)) (replicate-append-replicate 1 before 32 ∙ ap (λ n. replicate n 32) (let e : 1 + before ≡ before + 1 = omega arith in e)) (replicate-append-replicate after 1 32) ∙ aligned-is alignment space free before after line (first_line text) is many indents rest)
-      (draws-then (draws-then first second) (draws-then third (draws-then fourth fifth)))
+  draws-cell alignment text space free before after line = draws-aligned alignment space free before after line (first_line text)
 
 -- a character of some bytes, drawn again and again
 pub encodes-more : (n c : ℕ) → encode_utf8_all (replicate n c) ++ encode_utf8 c ≡ encode_utf8_all (replicate (n + 1) c)

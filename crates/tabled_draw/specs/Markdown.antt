@@ -1,77 +1,123 @@
--- Tables as Markdown: what their bytes are, and what a reader of Markdown takes those of a cell for.
-use Rattle.std.specs.Prelude.{◌==◌, ◌&&◌, ◌||◌, if◌then◌else◌, ℕ, Bool, List, [], ◌∷◌, Option, None, Some, codes, slice_index_or, suc, take, zero}
-use Rattle.std.specs.Char.{is_ascii_punctuation}
-use Rattle.std.specs.List.{flat_map}
-use Rattle.std.specs.Option.{option_map}
-use Rattle.std.specs.Str.{bytes_eq}
-use Rattle.tabled_draw.specs.Each.{each}
-use Rattle.tabled_draw.specs.Picture.{drawn_with, picture}
+-- Tables as Markdown: what their lines are.
+use Rattle.std.specs.Prelude.{◌+◌, ◌==◌, ◌&&◌, ◌||◌, ◌++◌, if◌then◌else◌, ℕ, Bool, List, [], ◌∷◌, chars, codes, length, max, replicate, slice_index_or}
+use Rattle.std.specs.Char.{is_ascii_alphanumeric, is_control, is_whitespace}
+use Rattle.std.specs.Fmt.{decimal}
+use Rattle.tabled_draw.specs.Alignments.{aligned, alignment_in}
+use Rattle.tabled_draw.specs.Each.{each, largest}
+use Rattle.tabled_draw.specs.Picture.{bytes_of_lines}
 use Rattle.tabled_draw.specs.Sizes.{text_of_cell}
+use Rattle.tabled_draw.specs.Texts.{text_width}
 use Rattle.tabled_draw.specs.declared.alignment.Alignment.{Alignment}
-use Rattle.tabled_draw.specs.declared.style.TheConstants.Style.{MARKDOWN}
+use Rattle.tabled_draw.specs.declared.alignment.Alignment.TheVariants.{Left, Center, Right}
 use Rattle.tabled_grid.specs.Anchors.{is_hidden_in}
 use Rattle.tabled_grid.specs.Entity.{place}
 use Rattle.tabled_grid.specs.Fitting.{fitting}
-use Rattle.tabled_grid.specs.Grid.{Grid, grid_of}
-use Rattle.tabled_grid.specs.Spans.{SpanMap, empty, rectangles}
+use Rattle.tabled_grid.specs.Grid.{Grid}
+use Rattle.tabled_grid.specs.Spans.{SpanMap, rectangles}
 use Rattle.tabled_grid.specs.declared.config.rectangle.Rectangle.{Rectangle}
 use Rattle.tabled_grid.specs.declared.config.position.Position.{Position}
 
--- ---- what is written
+-- ---- texts
 
--- a backslash, a bar or a `<`
-abbrev pub needs_backslash : ℕ → Bool
-needs_backslash b = (b == 92) || ((b == 124) || (b == 60))
+-- a mark of Markdown: one of \ ` * _ [ ] ~ |
+unfoldable pub is_mark : ℕ → Bool
+is_mark c = (c == 92) || ((c == 96) || ((c == 42) || ((c == 95) || ((c == 91) || ((c == 93) || ((c == 126) || (c == 124)))))))
 
--- what stands for a byte of a text: a backslash before those that need one, and `<br>` for a newline
-abbrev pub escaped_byte : ℕ → List ℕ
-escaped_byte b = if b == 10 then codes "<br>" else (if needs_backslash b then 92 ∷ b ∷ [] else b ∷ [])
+-- what goes on behind the colon of a link, as `http://`, or of a picture's name, as `:+1:`
+unfoldable pub goes_on : ℕ → Bool
+goes_on c = is_ascii_alphanumeric c || ((c == 47) || ((c == 43) || (c == 45)))
 
--- a text as a cell of Markdown has it
+-- a character means something between two others: it is a mark, the colon of a link or a picture's name, or the full stop
+-- of `www.`
+unfoldable pub is_markup : ℕ → ℕ → ℕ → Bool
+is_markup before c after = is_mark c || (((c == 58) && goes_on after) || ((c == 46) && ((before == 119) || (before == 87))))
+
+-- a character stands as its number between two others: a control character, or a blank behind a blank or at an end of a
+-- line, which a reader may leave out
+unfoldable pub is_numbered : ℕ → ℕ → ℕ → Bool
+is_numbered before c after = is_control c || (is_whitespace c && (is_whitespace before || (after == 10)))
+
+-- what stands for a character between two others
+unfoldable pub escape : ℕ → ℕ → ℕ → List ℕ
+escape before c after =
+    if c == 10 then codes "<br>"
+    else if c == 38 then codes "&amp;"
+    else if c == 60 then codes "&lt;"
+    else if is_numbered before c after then codes "&#" ++ (decimal c ++ codes ";")
+    else if is_markup before c after then 92 ∷ c ∷ []
+    else c ∷ []
+
+-- what stands for characters behind another one, each between those beside it, the last one before a newline
+abbrev pub escaped_behind : ℕ → List ℕ → List ℕ
+escaped_behind before [] = []
+escaped_behind before (c ∷ cs) = escape before c (slice_index_or cs 0 10) ++ escaped_behind c cs
+
+-- what stands for a text
 abbrev pub escaped : List ℕ → List ℕ
-escaped text = flat_map escaped_byte text
+escaped text = escaped_behind 10 (chars text)
 
--- a cell as Markdown has it, which knows no merged cells: one that a merged cell hides is empty
+-- ---- cells
+
+-- what stands for a cell in Markdown, which knows no merged cells: one that a merged cell hides is empty
 abbrev pub cell_apart : Grid (List ℕ) → List Rectangle → Position → List ℕ
 cell_apart g es p = if is_hidden_in es p then [] else escaped (text_of_cell g p)
 
--- the cells of a row as Markdown has them
+-- what stands for the cells of a row
 abbrev pub row_apart : Grid (List ℕ) → List Rectangle → ℕ → List (List ℕ)
 row_apart g es i = each g.columns (λ j. cell_apart g es (place i j) ∷ [])
 
--- the cells of all rows as Markdown has them
+-- what stands for the cells of all rows
 abbrev pub rows_apart : Grid (List ℕ) → List Rectangle → List (List (List ℕ))
 rows_apart g es = each g.rows (λ i. row_apart g es i ∷ [])
 
--- a table as Markdown has it, where the merged cells that fit it hide cells
-abbrev pub apart : Grid (List ℕ) → SpanMap → Grid (List ℕ)
-apart g m = grid_of (rows_apart g (fitting g.rows g.columns (rectangles m)))
+-- ---- lines
 
--- the lines of a table as Markdown
+-- the columns that the widest of some rows' cells takes of a column, and at least three
+abbrev pub column_width : List (List (List ℕ)) → ℕ → ℕ
+column_width rows j = max 3 (largest (length rows) (λ i. text_width (slice_index_or (slice_index_or rows i []) j [])))
+
+-- the widths of n columns
+abbrev pub column_widths : ℕ → List (List (List ℕ)) → List ℕ
+column_widths n rows = each n (λ j. column_width rows j ∷ [])
+
+-- the line of a row: its cells, aligned in their columns, between bars
+abbrev pub row_line : List Alignment → List ℕ → List (List ℕ) → List ℕ
+row_line aligns widths row = each (length widths) (λ j. 124 ∷ aligned (alignment_in aligns j) (slice_index_or widths j 0) (slice_index_or row j [])) ++ (124 ∷ [])
+
+-- what dashes begin with: a colon where texts stand in the middle
+abbrev pub first_dash : Alignment → ℕ
+first_dash Left = 45
+first_dash Center = 58
+first_dash Right = 45
+
+-- what dashes end with: a colon where texts stand in the middle or to the right
+abbrev pub last_dash : Alignment → ℕ
+last_dash Left = 45
+last_dash Center = 58
+last_dash Right = 58
+
+-- the dashes of a column, n and one more at each end, which says how texts are aligned
+abbrev pub dashes : Alignment → ℕ → List ℕ
+dashes alignment n = first_dash alignment ∷ (replicate n 45 ++ (last_dash alignment ∷ []))
+
+-- the line of dashes: those of each column, between bars
+abbrev pub dashes_line : List Alignment → List ℕ → List ℕ
+dashes_line aligns widths = each (length widths) (λ j. 124 ∷ dashes (alignment_in aligns j) (slice_index_or widths j 0)) ++ (124 ∷ [])
+
+-- the line of row i, and below that of the first row the line of dashes
+abbrev pub lines_at : List Alignment → List ℕ → List (List (List ℕ)) → ℕ → List (List ℕ)
+lines_at aligns widths rows i = row_line aligns widths (slice_index_or rows i []) ∷ (if i == 0 then dashes_line aligns widths ∷ [] else [])
+
+-- the lines of rows, of which there is none without columns
+abbrev pub lines_of : List Alignment → List ℕ → List (List (List ℕ)) → List (List ℕ)
+lines_of aligns widths rows = if length widths == 0 then [] else each (length rows) (lines_at aligns widths rows)
+
+-- the lines of a table as Markdown, where the merged cells that fit it hide cells
 abbrev pub markdown_lines : List Alignment → Grid (List ℕ) → SpanMap → List (List ℕ)
-markdown_lines aligns g m = picture MARKDOWN aligns (apart g m) []
+markdown_lines aligns g m =
+    let rows = rows_apart g (fitting g.rows g.columns (rectangles m)) in
+    lines_of aligns (column_widths g.columns rows) rows
 
 -- the bytes of a table as Markdown
 unfoldable pub markdown : List Alignment → Grid (List ℕ) → SpanMap → List ℕ
-markdown aligns g m = drawn_with MARKDOWN aligns (apart g m) empty
-
--- ---- what is read
-
--- a byte before a text, where there is one
-abbrev pub before : ℕ → Option (List ℕ) → Option (List ℕ)
-before b text = option_map (λ bs. b ∷ bs) text
-
--- the text of the bytes of a cell behind the first n: a mark of ASCII behind a backslash is itself, and `<br>` is a newline;
--- there is none where a bar or a newline ends the cell, or other HTML begins
-abbrev pub read_behind : ℕ → List ℕ → Option (List ℕ)
-read_behind n [] = Some []
-read_behind (suc n) (b ∷ bs) = read_behind n bs
-read_behind zero (b ∷ bs) =
-    if (b == 92) && is_ascii_punctuation (slice_index_or bs 0 0) then before (slice_index_or bs 0 0) (read_behind 1 bs)
-    else if (b == 60) && bytes_eq (take 3 bs) (codes "br>") then before 10 (read_behind 3 bs)
-    else if (b == 10) || ((b == 60) || (b == 124)) then None
-    else before b (read_behind 0 bs)
-
--- the text that a reader of Markdown takes the bytes of a cell for, in which marks of its own, as `*`, stand as they are
-abbrev pub read_cell : List ℕ → Option (List ℕ)
-read_cell bytes = read_behind 0 bytes
+markdown aligns g m = bytes_of_lines (markdown_lines aligns g m)

@@ -2,7 +2,6 @@
 
 ghost use Rattle.std.specs.Prelude.{◌≡◌, ◌+◌, ℕ, List, Some, codes, length, map};
 ghost use Rattle.tabled_draw.specs.BoxCharacters.{double_lines, round_lines, sharp_lines};
-ghost use Rattle.tabled_draw.specs.Markdown.{escaped, markdown, markdown_lines, read_cell};
 ghost use Rattle.tabled_draw.specs.Marks.{IsFine};
 ghost use Rattle.tabled_draw.specs.Overall.{AreDrawnAlike, AreEquallyWide, AreNoLargerThanAsked, HasAsManyLines, HasLineOfEachRow, HasNoControls, HasNoLinesWithoutCells, HoldsOfAll, HoldsOfPictures, IsDrawnWhole};
 ghost use Rattle.tabled_draw.specs.Picture.{bytes_of_lines};
@@ -143,16 +142,4 @@ pub fn hidden_texts_do_not_matter()
 pub fn misfits_leave_no_trace()
     ensures all { (g : Grid (List ℕ)) (m : SpanMap) → Fits m g.rows g.columns → IsDrawnWhole g m }
     ensures some { (g : Grid (List ℕ)) (m : SpanMap) → AreDrawnAlike g m g (keep_fitting g.rows g.columns m) }
-{}
-
-/// Any text is read back from what a cell of Markdown has of it: its bars and newlines end no cell, and a backslash or a
-/// `<br>` of its own is none of those that were put in.
-pub fn texts_of_markdown_are_read_back()
-    ensures { (text : List ℕ) → read_cell (escaped text) ≡ Some text }
-{}
-
-/// Markdown has a line for each row, whatever stands in its texts, and one below the first row.
-pub fn rows_are_lines_of_markdown()
-    ensures lines { (aligns : List Alignment) (g : Grid (List ℕ)) (m : SpanMap) → markdown aligns g m ≡ bytes_of_lines (markdown_lines aligns g m) }
-    ensures rows { (aligns : List Alignment) (g : Grid (List ℕ)) (m : SpanMap) → IsInside g (place 0 0) → length (markdown_lines aligns g m) ≡ g.rows + 1 }
 {}

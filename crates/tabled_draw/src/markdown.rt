@@ -1,27 +1,30 @@
 //! Tables as Markdown.
 
-ghost use Rattle.std.specs.Prelude.{◌≡◌, ◌++◌, ◌<◌, IfOk, IsTrue, OnOk, encode_utf8, length};
+ghost use Rattle.std.specs.Prelude.{◌≡◌, ◌++◌, ◌∷◌, [], IfOk, OnOk, chars, length, map, replicate};
 ghost use Rattle.std.specs.Io.KnownBytes.{Appends};
-ghost use Rattle.std.specs.List.{flat_map};
-ghost use Rattle.std.specs.String.{string_bytes};
-ghost use Rattle.tabled_draw.specs.Markdown.{apart, escaped, escaped_byte, markdown, needs_backslash};
-ghost use Rattle.tabled_draw.specs.MarkdownTexts.{AreRowsApart, IsCellApart, IsRowApart, grid_of_texts};
-ghost use Rattle.tabled_grid.specs.Entity.{place};
+ghost use Rattle.tabled_draw.specs.Alignments.{aligned};
+ghost use Rattle.tabled_draw.specs.Each.{each};
+ghost use Rattle.tabled_draw.specs.Markdown.{dashes, dashes_line, first_dash, last_dash, lines_at, markdown, row_line};
+ghost use Rattle.tabled_draw.specs.MarkdownTexts.{characters, rows_of_characters};
+ghost use Rattle.tabled_draw.specs.Pens.{Draws};
+ghost use Rattle.tabled_draw.specs.Picture.{with_newlines};
 ghost use Rattle.tabled_grid.specs.Evenness.{AreWide};
-ghost use Rattle.tabled_grid.specs.Grid.{IsEven, IsInside, grid_of, map_grid, map_items};
+ghost use Rattle.tabled_grid.specs.Grid.{map_grid, map_items};
 
-use crate::alignment::Alignment;
-use crate::drawing::Drawing;
-use crate::look::Look;
-use crate::style::Style;
+use crate::alignment::{Alignment, alignment_in, indent};
+use crate::markdown_texts::{column_widths, texts_apart};
+use crate::pen::Pen;
 use std::alloc::{AllocError, Global};
 use std::io::{self, Write};
-use tabled_grid::config::{CoverMap, Position, SpannedConfig};
+use std::marker::Model;
+use tabled_grid::config::SpannedConfig;
 use tabled_grid::records::{CellText, ExactRecords, PeekableRecords, Records};
+use tabled_held::Held;
+use tabled_width::columns_of;
 
 /// Writes a table (`r x c`) as Markdown, its first row as the header, with texts aligned by columns as `Look::align`
-/// says. A backslash stands before each `\`, `|` and `<` of a text, and `<br>` for a newline; of merged cells, which
-/// Markdown doesn't know, the first cell has the text, and the others are empty.
+/// says. A reader of Markdown shows each text as it stands; of merged cells, which Markdown doesn't know, the first cell
+/// has the text, and the others are empty. A table without cells has no line.
 ///
 /// All memory is asked for before the first byte is written: refused, this is an error of the kind `OutOfMemory`, and
 /// nothing is written. Any other error is the writer's. It doesn't flush the writer.
@@ -42,152 +45,187 @@ where
     ensures drawn { OnOk result (Appends (W.contents writer.old) (W.contents writer.new)
         (markdown alignments.now (map_grid R.Cell.text_of (R.grid records.now)) cfg.now)) }
 {
-    let texts = markdown_texts(alloc, records, cfg)?;
-    let look = Look::new(Style::markdown()).align(alignments);
-    let drawing = Drawing::with_look(alloc, &texts, &SpannedConfig::new(alloc), &look)?;
-    drawing.write(writer)
+    let markdown = Markdown::new(alloc, records, cfg, alignments)?;
+    markdown.write(writer)
 }
 
-/// The texts of a table (`r x c`) as `draw_markdown` writes them: escaped, and empty where a merged cell that fits hides
-/// them. It may be refused for memory; the table is only read.
-///
-/// `Drawing::with_look` lays them out in `Style::markdown` without merged cells.
+/// A table as Markdown, with all the memory that writing it takes. A contract sees it as its bytes.
 ///
 /// Of this project.
-pub fn markdown_texts<R>(
-    alloc: Global,
-    records: &R,
-    cfg: &SpannedConfig,
-) -> Result<Vec<Vec<String>>, AllocError>
-where
-    R: Records + ExactRecords + PeekableRecords,
-    R::Cell: CellText,
-    requires well { R.is_well_formed records.now }
-    ensures texts { IfOk result (λ texts. grid_of_texts (map_items texts.items) ≡ apart (map_grid R.Cell.text_of (R.grid records.now)) cfg.now) }
-    ensures even { IfOk result (λ texts. IsEven (grid_of (map_items texts.items))) }
-{
-    let rows = records.count_rows();
-    let columns = records.count_columns();
-    let spans = cfg.fitting(alloc, rows, columns)?;
-    let cover = CoverMap::new(alloc, &spans, rows, columns)?;
-    all_texts(alloc, records, &cover)
+#[derive(Drop)]
+pub struct Markdown<'a> {
+    /// What stands for the texts, row by row.
+    rows: Vec<Vec<String>>,
+    /// How wide each column is.
+    widths: Vec<usize>,
+    alignments: &'a [Alignment],
+    held: Held,
 }
 
-/// The texts of all rows.
-fn all_texts<R>(
-    alloc: Global,
-    records: &R,
-    cover: &CoverMap,
-) -> Result<Vec<Vec<String>>, AllocError>
-where
-    R: Records + ExactRecords + PeekableRecords,
-    R::Cell: CellText,
-    requires well { R.is_well_formed records.now }
-    requires first { cover.now.first ≡ place 0 0 }
-    requires rows { cover.now.rows ≡ (R.grid records.now).rows }
-    requires columns { cover.now.columns ≡ (R.grid records.now).columns }
-    ensures wide { IfOk result (λ texts. AreWide (R.grid records.now).columns (map_items texts.items)) }
-    ensures texts { IfOk result (λ texts. AreRowsApart (map_grid R.Cell.text_of (R.grid records.now)) cover.now (map_items texts.items)) }
-{
-    let mut texts = Vec::new(alloc);
-    for i in 0..records.count_rows() {
-        texts.push(row_texts(alloc, records, cover, i)?)?;
-    }
-    Ok(texts)
+impl<'a> Model for Markdown<'a> {
+    ghost use Rattle.std.specs.Prelude.{◌≡◌, ℕ, [], List, length};
+    ghost use Rattle.tabled_draw.specs.Markdown.{lines_of};
+    ghost use Rattle.tabled_draw.specs.MarkdownTexts.{rows_of_characters};
+    ghost use Rattle.tabled_draw.specs.Picture.{bytes_of_lines};
+    ghost use Rattle.tabled_grid.specs.Evenness.{AreWide};
+    ghost use Rattle.tabled_grid.specs.Grid.{map_items};
+
+    ghost Value = { List ℕ };
+
+    ghost view = { λ a. bytes_of_lines (lines_of a.alignments.now a.widths.items (rows_of_characters a.rows.items)) };
+
+    ghost invariant = { λ a. AreWide (length a.widths.items) (map_items a.rows.items) × (a.held.bytes ≡ []) };
 }
 
-/// The texts of a row.
-fn row_texts<R>(
-    alloc: Global,
-    records: &R,
-    cover: &CoverMap,
-    i: usize,
-) -> Result<Vec<String>, AllocError>
-where
-    R: Records + ExactRecords + PeekableRecords,
-    R::Cell: CellText,
-    requires well { R.is_well_formed records.now }
-    requires row { i < (R.grid records.now).rows }
-    requires first { cover.now.first ≡ place 0 0 }
-    requires rows { cover.now.rows ≡ (R.grid records.now).rows }
-    requires columns { cover.now.columns ≡ (R.grid records.now).columns }
-    ensures long { IfOk result (λ row. length row.items ≡ (R.grid records.now).columns) }
-    ensures texts { IfOk result (λ row. IsRowApart (map_grid R.Cell.text_of (R.grid records.now)) cover.now i row.items) }
-{
-    let mut row = Vec::new(alloc);
-    for j in 0..records.count_columns() {
-        row.push(text_at(alloc, records, cover, Position { row: i, col: j })?)?;
+impl<'a> Markdown<'a> {
+    /// Makes what stands for the texts of a table (`r x c`), and asks for all the memory that writing takes. Refused, it
+    /// leaves the table as it is.
+    pub fn new<R>(
+        alloc: Global,
+        records: &R,
+        cfg: &SpannedConfig,
+        alignments: &'a [Alignment],
+    ) -> Result<Self, AllocError>
+    where
+        R: Records + ExactRecords + PeekableRecords,
+        R::Cell: CellText,
+        requires well { R.is_well_formed records.now }
+        ensures bytes { IfOk result (λ made. made ≡ markdown alignments.now (map_grid R.Cell.text_of (R.grid records.now)) cfg.now) }
+    {
+        let rows = texts_apart(alloc, records, cfg)?;
+        let widths = column_widths(alloc, &rows, records.count_columns())?;
+        let held = Held::new(alloc)?;
+        Ok(Markdown {
+            rows,
+            widths,
+            alignments,
+            held,
+        })
     }
-    Ok(row)
+
+    /// Writes the lines, part by part. It takes no memory and doesn't flush the writer.
+    pub fn write<W: Write>(self, writer: &mut W) -> io::Result<()>
+        ensures written { OnOk result (Appends (W.contents writer.old) (W.contents writer.new) self.entry) }
+    {
+        let Markdown {
+            rows,
+            widths,
+            alignments,
+            held,
+        } = self;
+        if widths.is_empty() {
+            return Ok(());
+        }
+        let mut pen = Pen::new(writer, held);
+        write_lines(&mut pen, &rows, &widths, alignments)?;
+        let written = pen.finish()?;
+        // No effect: the proof reads here what the writer got.
+        let _ = &*written;
+        Ok(())
+    }
 }
 
-/// The text of a place.
-fn text_at<R>(
-    alloc: Global,
-    records: &R,
-    cover: &CoverMap,
-    pos: Position,
-) -> Result<String, AllocError>
-where
-    R: Records + ExactRecords + PeekableRecords,
-    R::Cell: CellText,
-    requires well { R.is_well_formed records.now }
-    requires inside { IsInside (R.grid records.now) pos }
-    requires first { cover.now.first ≡ place 0 0 }
-    requires rows { cover.now.rows ≡ (R.grid records.now).rows }
-    requires columns { cover.now.columns ≡ (R.grid records.now).columns }
-    ensures { IfOk result (λ text. IsCellApart (map_grid R.Cell.text_of (R.grid records.now)) cover.now pos text) }
+/// Writes the lines of rows.
+fn write_lines<W: Write>(
+    pen: &mut Pen<'_, W>,
+    rows: &[Vec<String>],
+    widths: &[usize],
+    alignments: &[Alignment],
+) -> io::Result<()>
+    requires { AreWide (length widths.now) (map_items rows.now) }
+    ensures { OnOk result (Draws W.contents pen.old pen.new (
+        with_newlines (each (length rows.now) (lines_at alignments.now widths.now (rows_of_characters rows.now))))) }
 {
-    if cover.is_hidden(pos) {
-        return Ok(String::new(alloc));
-    }
-    escaped(alloc, records.get_text(pos))
-}
-
-/// A text as a cell of Markdown has it.
-fn escaped(alloc: Global, text: &str) -> Result<String, AllocError>
-    ensures { IfOk result (λ new. string_bytes new ≡ escaped text.now) }
-{
-    // Few texts have a byte to escape, and the others are copied whole.
-    if is_plain(text.as_bytes()) {
-        return String::from_str(alloc, text);
-    }
-    let mut out = String::with_capacity(alloc, text.len())?;
-    for c in text.chars() {
-        push_escaped(&mut out, c)?;
-    }
-    Ok(out)
-}
-
-/// Says whether a text stands as it is.
-fn is_plain(text: &[u8]) -> bool
-    ensures { IsTrue result → escaped text.now ≡ text.now }
-{
-    for byte in text {
-        if matches!(*byte, b'\n' | b'\\' | b'|' | b'<') {
-            return false;
+    for i in 0..rows.len() {
+        write_row(pen, &rows[i], widths, alignments)?;
+        if i == 0 {
+            write_dashes_line(pen, widths, alignments)?;
         }
     }
-    true
-}
-
-/// Appends what stands for a character.
-fn push_escaped(out: &mut String, c: char) -> Result<(), AllocError>
-    ensures { OnOk result (string_bytes out.new ≡ string_bytes out.old ++ flat_map escaped_byte (encode_utf8 c)) }
-{
-    if c == '\n' {
-        return out.push_str("<br>");
-    }
-    if needs_backslash(c) {
-        out.push('\\')?;
-    }
-    out.push(c)?;
     Ok(())
 }
 
-/// Says whether a character needs a backslash before it.
-fn needs_backslash(c: char) -> bool
-    ensures { result ≡ needs_backslash c }
+/// Writes the line of a row.
+fn write_row<W: Write>(
+    pen: &mut Pen<'_, W>,
+    row: &[String],
+    widths: &[usize],
+    alignments: &[Alignment],
+) -> io::Result<()>
+    requires { length row.now ≡ length widths.now }
+    ensures { OnOk result (Draws W.contents pen.old pen.new (row_line alignments.now widths.now (map characters row.now) ++ 10 ∷ [])) }
 {
-    matches!(c, '\\' | '|' | '<')
+    for j in 0..widths.len() {
+        pen.draw('|');
+        write_cell(pen, alignment_in(alignments, j), &row[j], widths[j]);
+    }
+    pen.draw('|');
+    pen.end_line()
+}
+
+/// Writes what stands for a text, aligned in its column, with one blank more at both sides.
+fn write_cell<W: Write>(pen: &mut Pen<'_, W>, alignment: Alignment, text: &str, width: usize)
+    ensures { Draws W.contents pen.old pen.new (aligned alignment width (chars text.now)) }
+{
+    let free = width.saturating_sub(columns_of(text));
+    let before = indent(alignment, free);
+    pen.draw(' ');
+    pen.draw_blanks(before);
+    pen.send(text.as_bytes());
+    pen.draw_blanks(free.saturating_sub(before));
+    pen.draw(' ');
+}
+
+/// Writes the line of dashes.
+fn write_dashes_line<W: Write>(
+    pen: &mut Pen<'_, W>,
+    widths: &[usize],
+    alignments: &[Alignment],
+) -> io::Result<()>
+    ensures { OnOk result (Draws W.contents pen.old pen.new (dashes_line alignments.now widths.now ++ 10 ∷ [])) }
+{
+    for j in 0..widths.len() {
+        pen.draw('|');
+        write_dashes(pen, alignment_in(alignments, j), widths[j]);
+    }
+    pen.draw('|');
+    pen.end_line()
+}
+
+/// Writes the dashes of a column, whose ends say how its texts are aligned.
+fn write_dashes<W: Write>(pen: &mut Pen<'_, W>, alignment: Alignment, width: usize)
+    ensures { Draws W.contents pen.old pen.new (dashes alignment width) }
+{
+    pen.draw(first_dash(alignment));
+    write_level_dashes(pen, width);
+    pen.draw(last_dash(alignment));
+}
+
+/// Writes dashes.
+fn write_level_dashes<W: Write>(pen: &mut Pen<'_, W>, count: usize)
+    ensures { Draws W.contents pen.old pen.new (replicate count 45) }
+{
+    for _ in 0..count {
+        pen.draw('-');
+    }
+}
+
+/// What the dashes of a column begin with.
+fn first_dash(alignment: Alignment) -> char
+    ensures { result ≡ first_dash alignment }
+{
+    match alignment {
+        Alignment::Left | Alignment::Right => '-',
+        Alignment::Center => ':',
+    }
+}
+
+/// What the dashes of a column end with.
+fn last_dash(alignment: Alignment) -> char
+    ensures { result ≡ last_dash alignment }
+{
+    match alignment {
+        Alignment::Left => '-',
+        Alignment::Center | Alignment::Right => ':',
+    }
 }

@@ -1,8 +1,8 @@
-use Rattle.std.specs.String.{string_bytes}
+use Rattle.tabled_draw.specs.MarkdownTexts.{characters}
 use Rattle.tabled_draw.proofs.Common.{[], ◌∙◌, ◌∷◌, ◌≡◌, ap, arith, each, map_grid, rectangles}
 use Rattle.tabled_draw.proofs.Singly.{row-more, wide-more}
 use Rattle.tabled_draw.specs.Markdown.{row_apart}
-use Rattle.tabled_draw.proofs.markdown.all_texts.Goals as goal
+use Rattle.tabled_draw.proofs.markdown_texts.all_texts.Goals as goal
 
 pub loop-i-preserved : goal.loop-i-preserved
 loop-i-preserved g c =
@@ -11,7 +11,7 @@ loop-i-preserved g c =
     let row = c.in_ok-row_texts.field-0 in
     record {
       wide = rw c.in_ok-push.ensures.items (wide-more old row t.columns c.loop-i.invariant.wide c.in_ok-row_texts.ensures.long);
-      texts = λ m is. rw c.in_ok-push.ensures.items (row-more string_bytes old row c.loop-i.i (row_apart t (rectangles m)) (c.loop-i.invariant.texts m is) (c.in_ok-row_texts.ensures.texts m is));
+      texts = λ m is. rw c.in_ok-push.ensures.items (row-more characters old row c.loop-i.i (row_apart t (rectangles m)) (c.loop-i.invariant.texts m is) (c.in_ok-row_texts.ensures.texts m is));
     }
 
 pub returns-clause-texts : goal.returns-clause-texts

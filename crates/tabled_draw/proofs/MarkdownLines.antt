@@ -1,0 +1,66 @@
+-- The lines of Markdown, as they are drawn.
+use Rattle.std.specs.Global.{Global, Vec}
+use Rattle.std.specs.Prelude.{Err, Ok, OnOk, Result, String}
+use Rattle.tabled_draw.proofs.Common.{[], Alignment, Draws, List, Option, Pen, add-one, ap, ap₂, append-nil, arith, cond, each, eq-eqb, ext_get_or, get_or, get_or-map, largest, length, map, max, ne_eqb, refl, suc, sym, text_width, with_newlines, zero, ℕ, ◌++◌, ◌+◌, ◌<◌, ◌∙◌, ◌∷◌, ◌≡◌, ◌≢◌}
+use Rattle.std.proofs.lemmas.Grind.{flat_map-append}
+use Rattle.tabled_draw.proofs.Each.{each-more, get-singles, length-singles}
+use Rattle.tabled_draw.specs.Markdown.{column_width, column_widths, dashes_line, lines_at, row_line}
+use Rattle.tabled_grid.specs.Evenness.{AreWide}
+use Rattle.tabled_grid.specs.Grid.{map_items}
+use Rattle.tabled_draw.proofs.Pens.{draws-as, draws-then}
+use Rattle.tabled_draw.specs.MarkdownTexts.{characters, rows_of_characters}
+
+-- the characters of a text in a row
+pub characters-at : (row : List (String Global)) (j : ℕ) (text : String Global) → j < length row → text ≡ get_or row j text → characters text ≡ get_or (map characters row) j []
+characters-at row j text less is = ap characters is ∙ sym (get_or-map characters row j text [] less)
+
+-- a line whose parts are drawn is ended by a bar and a newline
+module _ {W : Type 0} {contents : W → Option (List ℕ)} where
+  pub line-ended : {T E : Type 0} (r : Result T E) (a b c d : Pen W) (j n : ℕ) (part : ℕ → List ℕ) → j ≡ n → Draws contents a b (each j part) → Draws contents b c (124 ∷ []) → OnOk r (Draws contents c d (10 ∷ [])) → OnOk r (Draws contents a d ((each n part ++ (124 ∷ [])) ++ (10 ∷ [])))
+  line-ended (Ok x) a b c d j n part all drawn bar end = draws-then (draws-then (draws-as (ap (λ k. each k part) all) drawn) bar) end
+  line-ended (Err e) a b c d j n part all drawn bar end = tt
+
+-- ---- rows
+
+-- a row of some that are equally long
+pub wide-at : (n : ℕ) (rows : List (Vec (String Global))) (i : ℕ) (row : Vec (String Global)) → AreWide n (map_items rows) → i < length rows → row ≡ get_or rows i row → length row.items ≡ n
+wide-at n [] i row wide less is = absurd (omega (arith, less))
+wide-at n (r ∷ rows) zero row wide less is = ap (λ (v : Vec (String Global)). length v.items) is ∙ wide.0
+wide-at n (r ∷ rows) (suc i) row wide less is = wide-at n rows i row wide.1 (omega (arith, less)) is
+
+-- the characters of the texts of a row
+pub row-at : (rows : List (Vec (String Global))) (i : ℕ) (row : Vec (String Global)) → i < length rows → row ≡ get_or rows i row → map characters row.items ≡ get_or (rows_of_characters rows) i []
+row-at [] i row less is = absurd (omega (arith, less))
+row-at (r ∷ rows) zero row less is = ap (λ (v : Vec (String Global)). map characters v.items) is
+row-at (r ∷ rows) (suc i) row less is = row-at rows i row (omega (arith, less)) is
+
+pub length-rows : (rows : List (Vec (String Global))) → length (rows_of_characters rows) ≡ length rows
+length-rows [] = refl
+length-rows (r ∷ rows) = ap suc (length-rows rows)
+
+-- ---- lines, row after row
+
+module _ (aligns : List Alignment) (widths : List ℕ) (rows : List (List (List ℕ))) where
+  pub lines-more : (i : ℕ) → with_newlines (each (i + 1) (lines_at aligns widths rows)) ≡ with_newlines (each i (lines_at aligns widths rows)) ++ with_newlines (lines_at aligns widths rows i)
+  lines-more i = ap with_newlines (each-more (lines_at aligns widths rows) i) ∙ flat_map-append (λ line. line ++ (10 ∷ [])) (each i (lines_at aligns widths rows)) (lines_at aligns widths rows i)
+
+  pub first-lines : (i : ℕ) → i ≡ 0 → with_newlines (lines_at aligns widths rows i) ≡ (row_line aligns widths (get_or rows i []) ++ (10 ∷ [])) ++ (dashes_line aligns widths ++ (10 ∷ []))
+  first-lines i first = ap (λ b. with_newlines (row_line aligns widths (get_or rows i []) ∷ cond b (dashes_line aligns widths ∷ []) [])) (eq-eqb i 0 first) ∙ ap (λ bs. (row_line aligns widths (get_or rows i []) ++ (10 ∷ [])) ++ bs) (append-nil (dashes_line aligns widths ++ (10 ∷ [])))
+
+  pub later-lines : (i : ℕ) → i ≢ 0 → with_newlines (lines_at aligns widths rows i) ≡ row_line aligns widths (get_or rows i []) ++ (10 ∷ [])
+  later-lines i later = ap (λ b. with_newlines (row_line aligns widths (get_or rows i []) ∷ cond b (dashes_line aligns widths ∷ []) [])) (ne_eqb i 0 later) ∙ append-nil (row_line aligns widths (get_or rows i []) ++ (10 ∷ []))
+
+-- ---- the widths of columns
+
+-- a width is raised by one more row
+pub width-more : (rows : List (List (List ℕ))) (row : List (List ℕ)) (i j old new : ℕ) → row ≡ get_or rows i [] → old ≡ max 3 (largest i (λ k. text_width (get_or (get_or rows k []) j []))) → new ≡ max old (text_width (get_or row j [])) → new ≡ max 3 (largest (i + 1) (λ k. text_width (get_or (get_or rows k []) j [])))
+width-more rows row i j old new is was raised =
+    raised ∙ ap₂ (λ a r. max a (text_width (get_or r j []))) was is
+    ∙ max-max 3 (largest i (λ k. text_width (get_or (get_or rows k []) j []))) (text_width (get_or (get_or rows i []) j []))
+    ∙ ap (λ n. max 3 (largest n (λ k. text_width (get_or (get_or rows k []) j [])))) (sym (add-one i))
+  where
+    max-max : (a b c : ℕ) → max (max a b) c ≡ max a (max b c)
+    max-max a b c = omega arith
+
+pub widths-all : (rows : List (List (List ℕ))) (n : ℕ) (widths : List ℕ) → length widths ≡ n → ((j : ℕ) → j < n → get_or widths j 0 ≡ column_width rows j) → widths ≡ column_widths n rows
+widths-all rows n widths long are = ext_get_or 0 widths (column_widths n rows) (long ∙ sym (length-singles (column_width rows) n)) (λ j less. are j (omega (arith, less, long)) ∙ sym (get-singles (column_width rows) n j 0 (omega (arith, less, long))))
