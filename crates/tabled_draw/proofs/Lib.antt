@@ -9,8 +9,11 @@ pub mod Example
 pub mod Fine
 pub mod Fitting
 pub mod LawLines
+pub mod LawMarkdown
 pub mod LawPicture
+pub mod MarkdownCells
 pub mod MarkdownLines
+pub mod MarkdownRead
 pub mod Order
 pub mod Owned
 pub mod Pens

@@ -9,6 +9,7 @@ pub mod Laid
 pub mod Lines
 pub mod Looks
 pub mod Markdown
+pub mod MarkdownRead
 pub mod MarkdownTexts
 pub mod Marks
 pub mod Measured

@@ -2,6 +2,8 @@
 
 ghost use Rattle.std.specs.Prelude.{◌≡◌, ◌+◌, ℕ, List, Some, codes, length, map};
 ghost use Rattle.tabled_draw.specs.BoxCharacters.{double_lines, round_lines, sharp_lines};
+ghost use Rattle.tabled_draw.specs.Markdown.{markdown, markdown_lines};
+ghost use Rattle.tabled_draw.specs.MarkdownRead.{IsReadAs};
 ghost use Rattle.tabled_draw.specs.Marks.{IsFine};
 ghost use Rattle.tabled_draw.specs.Overall.{AreDrawnAlike, AreEquallyWide, AreNoLargerThanAsked, HasAsManyLines, HasLineOfEachRow, HasNoControls, HasNoLinesWithoutCells, HoldsOfAll, HoldsOfPictures, IsDrawnWhole};
 ghost use Rattle.tabled_draw.specs.Picture.{bytes_of_lines};
@@ -142,4 +144,13 @@ pub fn hidden_texts_do_not_matter()
 pub fn misfits_leave_no_trace()
     ensures all { (g : Grid (List ℕ)) (m : SpanMap) → Fits m g.rows g.columns → IsDrawnWhole g m }
     ensures some { (g : Grid (List ℕ)) (m : SpanMap) → AreDrawnAlike g m g (keep_fitting g.rows g.columns m) }
+{}
+
+/// Markdown is read as its table: the second line has the dashes of each column, which say how its texts are aligned, and
+/// each other line is that of a row. A bar that has no backslash before it ends a cell, and what stands there, without
+/// blanks at both ends, is read as the cell's text: no part of a text is a mark, a tag, a link or a line's end to a
+/// reader. Of merged cells the first has the text, and the others are empty.
+pub fn markdown_is_read_as_its_table()
+    ensures lines { (aligns : List Alignment) (g : Grid (List ℕ)) (m : SpanMap) → markdown aligns g m ≡ bytes_of_lines (markdown_lines aligns g m) }
+    ensures read { (aligns : List Alignment) (g : Grid (List ℕ)) (m : SpanMap) → IsInside g (place 0 0) → IsReadAs aligns g m (markdown_lines aligns g m) }
 {}

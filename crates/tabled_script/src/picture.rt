@@ -13,7 +13,7 @@ use crate::narrow::narrow;
 use std::alloc::{AllocError, Global};
 use std::io::{self, Write};
 use tabled_draw::laws::lines_take_the_width_of_their_picture;
-use tabled_draw::{Alignment, Drawing, Look, Style, markdown_texts};
+use tabled_draw::{Alignment, Drawing, Look, Markdown, Style};
 use tabled_grid::config::SpannedConfig;
 use tabled_grid::records::{CellText, ExactRecords, PeekableRecords, Records};
 use tabled_language::LentText;
@@ -78,10 +78,16 @@ pub(crate) fn write_markdown<W: Write>(
         Appends (W.contents writer.old) (W.contents writer.new) (markdown alignments.now (texts_in records.entry.items) spans.now)) }
     ensures refused { OnErr result (W.contents writer.new ≡ W.contents writer.old) }
 {
-    let texts = markdown_texts(alloc, &records, spans)?;
-    let look = Look::new(Style::markdown()).align(alignments);
-    let drawing = Drawing::with_look(alloc, &texts, &SpannedConfig::new(alloc), &look)?;
-    Ok(write_drawing(drawing, writer))
+    let markdown = Markdown::new(alloc, &records, spans, alignments)?;
+    Ok(write_lines(markdown, writer))
+}
+
+/// Writes Markdown, and flushes the writer.
+fn write_lines<W: Write>(markdown: Markdown<'_>, writer: &mut W) -> io::Result<()>
+    ensures { OnOk result (Appends (W.contents writer.old) (W.contents writer.new) markdown.entry) }
+{
+    markdown.write(writer)?;
+    writer.flush()
 }
 
 /// Writes a picture, and flushes the writer.
