@@ -1,8 +1,8 @@
 -- What holds of tables as Markdown.
-use Rattle.tabled_draw.proofs.Common.{[], Alignment, Grid, IsInside, List, Rectangle, SpanMap, ap, arith, cond, each, eqb, fitting, get_or, length, map, refl, ne_eqb, place, rectangles, sym, ℕ, ◌+◌, ◌<◌, ◌∙◌, ◌∷◌, ◌≡◌, subst}
+use Rattle.tabled_draw.proofs.Common.{[], Alignment, Grid, IsInside, List, Rectangle, SpanMap, ap, arith, cond, each, fitting, get_or, length, map, refl, ne_eqb, place, rectangles, sym, ℕ, ◌+◌, ◌<◌, ◌∙◌, ◌≡◌, subst}
 use Rattle.tabled_draw.proofs.Each.{get-singles, length-singles}
 use Rattle.tabled_draw.proofs.MarkdownCells.{count-lines, dashes-read, line-at, row-read, second-line}
-use Rattle.tabled_draw.specs.Markdown.{cell_apart, column_width, column_widths, lines_at, lines_of, markdown, markdown_lines, row_apart, rows_apart}
+use Rattle.tabled_draw.specs.Markdown.{cell_apart, markdown_width, markdown_widths, lines_at, lines_of, markdown, markdown_lines, row_apart, rows_apart}
 use Rattle.tabled_draw.specs.MarkdownRead.{AreReadAs, IsReadAs, cells_of, read_cell}
 use Rattle.tabled_draw.specs.Picture.{bytes_of_lines}
 
@@ -15,13 +15,13 @@ module _ (aligns : List Alignment) (g : Grid (List ℕ)) (es : List Rectangle) (
   rows = rows_apart g es
 
   abbrev widths : List ℕ
-  widths = column_widths g.columns rows
+  widths = markdown_widths g.columns rows
 
   tall : length rows ≡ g.rows
   tall = length-singles (row_apart g es) g.rows
 
   wide : length widths ≡ g.columns
-  wide = length-singles (column_width rows) g.columns
+  wide = length-singles (markdown_width rows) g.columns
 
   lines-each : lines_of aligns widths rows ≡ each (length rows) (lines_at aligns widths rows)
   lines-each = ap (λ b. cond b [] (each (length rows) (lines_at aligns widths rows))) (ne_eqb (length widths) 0 (λ none. omega (arith, none, wide, inside.col)))

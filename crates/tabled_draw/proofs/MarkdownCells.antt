@@ -3,13 +3,12 @@ use Rattle.std.proofs.lemmas.List.{reverse-append, reverse-reverse}
 use Rattle.std.specs.Char.{is_control, is_whitespace}
 use Rattle.std.specs.Fmt.{decimal}
 use Rattle.std.specs.Prelude.{chars, codes, reverse}
-use Rattle.tabled_draw.proofs.Common.{[], AllByRecursion, Alignment, Bool, Grid, IsInside, List, Position, Rectangle, Some, SpanMap, aligned, alignment_in, ap, ap₂, append-nil, append_assoc, arith, cases_eq, cond, each, eq-eqb, eqb, eqb-true, false, false≢true, fitting, get_or, indent, inl, inr, is_hidden_in, length, length-append, map, ne_eqb, not, place, rectangles, refl, replicate, replicate-append-replicate, subst, suc, sym, text_of_cell, text_width, true, zero, ℕ, ◌&&◌, ◌++◌, ◌+◌, ◌-◌, ◌<◌, ◌||◌, ◌∙◌, ◌∷◌, ◌≡◌, ◌≢◌, ◌≤◌, ◌⊎◌}
-use Rattle.std.proofs.Common.{◌^◌}
+use Rattle.tabled_draw.proofs.Common.{[], AllByRecursion, Alignment, Bool, Grid, List, Position, Rectangle, Some, aligned, alignment_in, ap, ap₂, append-nil, append_assoc, arith, cond, each, eqb, false, false≢true, get_or, indent, is_hidden_in, length, map, ne_eqb, place, refl, replicate, replicate-append-replicate, subst, suc, sym, text_of_cell, text_width, true, zero, ℕ, ◌&&◌, ◌++◌, ◌+◌, ◌-◌, ◌<◌, ◌||◌, ◌∙◌, ◌∷◌, ◌≡◌, ◌≤◌}
 use Rattle.std.proofs.lemmas.List.{map-append}
 use Rattle.tabled_draw.proofs.Each.{each-same, get-singles, length-singles}
 use Rattle.tabled_draw.specs.declared.alignment.Alignment.TheVariants.{Left, Center, Right}
 use Rattle.tabled_draw.proofs.MarkdownRead.{digits-only, numbered-small, or-false, read-escaped}
-use Rattle.tabled_draw.specs.Markdown.{cell_apart, dashes, dashes_line, first_dash, last_dash, lines_at, row_line, escape, escaped, escaped_behind, is_mark, is_markup, is_numbered}
+use Rattle.tabled_draw.specs.Markdown.{cell_apart, dashes, dashes_line, lines_at, row_line, escape, escaped, escaped_behind, is_mark, is_markup, is_numbered}
 use Rattle.tabled_draw.specs.MarkdownRead.{behind_blanks, cells_of, line_of_row, parts_behind, read_behind, read_cell, text_seen, trimmed}
 
 -- ---- blanks at the ends

@@ -4,7 +4,7 @@ use Rattle.std.specs.Prelude.{Err, Ok, OnOk, Result, String}
 use Rattle.tabled_draw.proofs.Common.{[], Alignment, Draws, List, Option, Pen, add-one, ap, ap₂, append-nil, arith, cond, each, eq-eqb, ext_get_or, get_or, get_or-map, largest, length, map, max, ne_eqb, refl, suc, sym, text_width, with_newlines, zero, ℕ, ◌++◌, ◌+◌, ◌<◌, ◌∙◌, ◌∷◌, ◌≡◌, ◌≢◌}
 use Rattle.std.proofs.lemmas.Grind.{flat_map-append}
 use Rattle.tabled_draw.proofs.Each.{each-more, get-singles, length-singles}
-use Rattle.tabled_draw.specs.Markdown.{column_width, column_widths, dashes_line, lines_at, row_line}
+use Rattle.tabled_draw.specs.Markdown.{markdown_width, markdown_widths, dashes_line, lines_at, row_line}
 use Rattle.tabled_grid.specs.Evenness.{AreWide}
 use Rattle.tabled_grid.specs.Grid.{map_items}
 use Rattle.tabled_draw.proofs.Pens.{draws-as, draws-then}
@@ -53,14 +53,9 @@ module _ (aligns : List Alignment) (widths : List ℕ) (rows : List (List (List 
 -- ---- the widths of columns
 
 -- a width is raised by one more row
-pub width-more : (rows : List (List (List ℕ))) (row : List (List ℕ)) (i j old new : ℕ) → row ≡ get_or rows i [] → old ≡ max 3 (largest i (λ k. text_width (get_or (get_or rows k []) j []))) → new ≡ max old (text_width (get_or row j [])) → new ≡ max 3 (largest (i + 1) (λ k. text_width (get_or (get_or rows k []) j [])))
+pub width-more : (rows : List (List (List ℕ))) (row : List (List ℕ)) (i j old new : ℕ) → row ≡ get_or rows i [] → old ≡ largest 3 i (λ k. text_width (get_or (get_or rows k []) j [])) → new ≡ max old (text_width (get_or row j [])) → new ≡ largest 3 (i + 1) (λ k. text_width (get_or (get_or rows k []) j []))
 width-more rows row i j old new is was raised =
-    raised ∙ ap₂ (λ a r. max a (text_width (get_or r j []))) was is
-    ∙ max-max 3 (largest i (λ k. text_width (get_or (get_or rows k []) j []))) (text_width (get_or (get_or rows i []) j []))
-    ∙ ap (λ n. max 3 (largest n (λ k. text_width (get_or (get_or rows k []) j [])))) (sym (add-one i))
-  where
-    max-max : (a b c : ℕ) → max (max a b) c ≡ max a (max b c)
-    max-max a b c = omega arith
+    raised ∙ ap₂ (λ a r. max a (text_width (get_or r j []))) was is ∙ ap (λ n. largest 3 n (λ k. text_width (get_or (get_or rows k []) j []))) (sym (add-one i))
 
-pub widths-all : (rows : List (List (List ℕ))) (n : ℕ) (widths : List ℕ) → length widths ≡ n → ((j : ℕ) → j < n → get_or widths j 0 ≡ column_width rows j) → widths ≡ column_widths n rows
-widths-all rows n widths long are = ext_get_or 0 widths (column_widths n rows) (long ∙ sym (length-singles (column_width rows) n)) (λ j less. are j (omega (arith, less, long)) ∙ sym (get-singles (column_width rows) n j 0 (omega (arith, less, long))))
+pub widths-all : (rows : List (List (List ℕ))) (n : ℕ) (widths : List ℕ) → length widths ≡ n → ((j : ℕ) → j < n → get_or widths j 0 ≡ markdown_width rows j) → widths ≡ markdown_widths n rows
+widths-all rows n widths long are = ext_get_or 0 widths (markdown_widths n rows) (long ∙ sym (length-singles (markdown_width rows) n)) (λ j less. are j (omega (arith, less, long)) ∙ sym (get-singles (markdown_width rows) n j 0 (omega (arith, less, long))))

@@ -1,5 +1,5 @@
 -- Tables as Markdown: what their lines are.
-use Rattle.std.specs.Prelude.{◌+◌, ◌==◌, ◌&&◌, ◌||◌, ◌++◌, if◌then◌else◌, ℕ, Bool, List, [], ◌∷◌, chars, codes, length, max, replicate, slice_index_or}
+use Rattle.std.specs.Prelude.{◌==◌, ◌&&◌, ◌||◌, ◌++◌, if◌then◌else◌, ℕ, Bool, List, [], ◌∷◌, chars, codes, length, replicate, slice_index_or}
 use Rattle.std.specs.Char.{is_ascii_alphanumeric, is_control, is_whitespace}
 use Rattle.std.specs.Fmt.{decimal}
 use Rattle.tabled_draw.specs.Alignments.{aligned, alignment_in}
@@ -73,12 +73,12 @@ rows_apart g es = each g.rows (λ i. row_apart g es i ∷ [])
 -- ---- lines
 
 -- the columns that the widest of some rows' cells takes of a column, and at least three
-abbrev pub column_width : List (List (List ℕ)) → ℕ → ℕ
-column_width rows j = max 3 (largest (length rows) (λ i. text_width (slice_index_or (slice_index_or rows i []) j [])))
+abbrev pub markdown_width : List (List (List ℕ)) → ℕ → ℕ
+markdown_width rows j = largest 3 (length rows) (λ i. text_width (slice_index_or (slice_index_or rows i []) j []))
 
 -- the widths of n columns
-abbrev pub column_widths : ℕ → List (List (List ℕ)) → List ℕ
-column_widths n rows = each n (λ j. column_width rows j ∷ [])
+abbrev pub markdown_widths : ℕ → List (List (List ℕ)) → List ℕ
+markdown_widths n rows = each n (λ j. markdown_width rows j ∷ [])
 
 -- the line of a row: its cells, aligned in their columns, between bars
 abbrev pub row_line : List Alignment → List ℕ → List (List ℕ) → List ℕ
@@ -116,7 +116,7 @@ lines_of aligns widths rows = if length widths == 0 then [] else each (length ro
 abbrev pub markdown_lines : List Alignment → Grid (List ℕ) → SpanMap → List (List ℕ)
 markdown_lines aligns g m =
     let rows = rows_apart g (fitting g.rows g.columns (rectangles m)) in
-    lines_of aligns (column_widths g.columns rows) rows
+    lines_of aligns (markdown_widths g.columns rows) rows
 
 -- the bytes of a table as Markdown
 unfoldable pub markdown : List Alignment → Grid (List ℕ) → SpanMap → List ℕ

@@ -1,5 +1,5 @@
 -- Tables as Markdown: what a reader takes their lines for.
-use Rattle.std.specs.Prelude.{◌≡◌, ◌+◌, ◌<◌, ◌==◌, ◌&&◌, ◌||◌, ◌++◌, if◌then◌else◌, ℕ, Bool, List, [], ◌∷◌, Option, None, Some, chars, codes, length, map, not, reverse, slice_index_or, suc, take, drop, zero}
+use Rattle.std.specs.Prelude.{◌≡◌, ◌+◌, ◌<◌, ◌==◌, ◌&&◌, ◌||◌, ◌++◌, if◌then◌else◌, ℕ, List, [], ◌∷◌, Option, None, Some, chars, codes, length, map, not, reverse, slice_index_or, suc, take, drop, zero}
 use Rattle.std.specs.Char.{is_ascii_punctuation, is_control, is_whitespace}
 use Rattle.std.specs.Fmt.{decimal}
 use Rattle.std.specs.List.{before_first}
@@ -8,7 +8,7 @@ use Rattle.std.specs.Str.{bytes_eq}
 use Rattle.std.specs.Str.Parse.{digits_value}
 use Rattle.tabled_draw.specs.Alignments.{alignment_in}
 use Rattle.tabled_draw.specs.Each.{each}
-use Rattle.tabled_draw.specs.Markdown.{column_widths, dashes, is_markup, rows_apart}
+use Rattle.tabled_draw.specs.Markdown.{markdown_widths, dashes, is_markup, rows_apart}
 use Rattle.tabled_draw.specs.Sizes.{text_of_cell}
 use Rattle.tabled_draw.specs.declared.alignment.Alignment.{Alignment}
 use Rattle.tabled_grid.specs.Anchors.{is_hidden_in}
@@ -48,9 +48,9 @@ reference cs =
     if bytes_eq (take 3 cs) (codes "lt;") then Some (60, 3)
     else if bytes_eq (take 4 cs) (codes "amp;") then Some (38, 4)
     else
-        let digits = before_first (λ c. c == 59) (drop 1 cs) in
-        let number = digits_value 10 digits in
-        if (slice_index_or cs 0 0 == 35) && bytes_eq digits (decimal number) then Some (number, suc (suc (length digits))) else None
+    let digits = before_first (λ c. c == 59) (drop 1 cs) in
+    let number = digits_value 10 digits in
+    if (slice_index_or cs 0 0 == 35) && bytes_eq digits (decimal number) then Some (number, suc (suc (length digits))) else None
 
 -- the character that one and some behind it stand for, and how many these are: a mark behind a backslash stands for
 -- itself, `<br>` for a newline; there is none where the character means something else to a reader
@@ -93,4 +93,4 @@ pub record AreReadAs (aligns : List Alignment) (widths : List ℕ) (g : Grid (Li
 abbrev pub IsReadAs : List Alignment → Grid (List ℕ) → SpanMap → List (List ℕ) → Type 0
 IsReadAs aligns g m lines =
     let es = fitting g.rows g.columns (rectangles m) in
-    AreReadAs aligns (column_widths g.columns (rows_apart g es)) g es lines
+    AreReadAs aligns (markdown_widths g.columns (rows_apart g es)) g es lines

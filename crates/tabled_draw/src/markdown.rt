@@ -12,7 +12,7 @@ ghost use Rattle.tabled_grid.specs.Evenness.{AreWide};
 ghost use Rattle.tabled_grid.specs.Grid.{map_grid, map_items};
 
 use crate::alignment::{Alignment, alignment_in, indent};
-use crate::markdown_texts::{column_widths, texts_apart};
+use crate::markdown_texts::{markdown_widths, texts_apart};
 use crate::pen::Pen;
 use std::alloc::{AllocError, Global};
 use std::io::{self, Write};
@@ -93,7 +93,7 @@ impl<'a> Markdown<'a> {
         ensures bytes { IfOk result (λ made. made ≡ markdown alignments.now (map_grid R.Cell.text_of (R.grid records.now)) cfg.now) }
     {
         let rows = texts_apart(alloc, records, cfg)?;
-        let widths = column_widths(alloc, &rows, records.count_columns())?;
+        let widths = markdown_widths(alloc, &rows, records.count_columns())?;
         let held = Held::new(alloc)?;
         Ok(Markdown {
             rows,

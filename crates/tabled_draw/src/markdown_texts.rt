@@ -3,7 +3,7 @@
 ghost use Rattle.std.specs.Prelude.{◌≡◌, ◌++◌, ◌<◌, IfOk, IsTrue, OnOk, chars, encode_utf8_all, codes, length, map};
 ghost use Rattle.std.specs.Fmt.{decimal};
 ghost use Rattle.std.specs.String.{string_bytes};
-ghost use Rattle.tabled_draw.specs.Markdown.{column_widths, escape, escaped, goes_on, is_mark, is_markup, is_numbered, rows_apart};
+ghost use Rattle.tabled_draw.specs.Markdown.{markdown_widths, escape, escaped, goes_on, is_mark, is_markup, is_numbered, rows_apart};
 ghost use Rattle.tabled_draw.specs.MarkdownTexts.{AreRaised, AreRowsApart, IsCellApart, IsRowApart, characters, rows_of_characters};
 ghost use Rattle.tabled_grid.specs.Entity.{place};
 ghost use Rattle.tabled_grid.specs.Evenness.{AreWide};
@@ -206,13 +206,13 @@ fn goes_on(c: char) -> bool
 }
 
 /// The widths of columns, each that of the widest of its texts.
-pub(crate) fn column_widths(
+pub(crate) fn markdown_widths(
     alloc: Global,
     rows: &[Vec<String>],
     columns: usize,
 ) -> Result<Vec<usize>, AllocError>
     requires { AreWide columns (map_items rows.now) }
-    ensures { IfOk result (λ widths. widths.items ≡ column_widths columns (rows_of_characters rows.now)) }
+    ensures { IfOk result (λ widths. widths.items ≡ markdown_widths columns (rows_of_characters rows.now)) }
 {
     let mut widths = vec![in alloc; LEAST_WIDTH; columns]?;
     for row in rows {

@@ -1,4 +1,4 @@
-use Rattle.tabled_draw.proofs.Common.{[], ap₂, append_assoc, replicate, ◌++◌, ◌∙◌, ◌∷◌}
+use Rattle.tabled_draw.proofs.Common.{[], ap₂, replicate, ◌++◌, ◌∷◌}
 use Rattle.tabled_draw.proofs.Pens.{draws-as, draws-then}
 use Rattle.tabled_draw.proofs.markdown.write_dashes.Goals as goal
 

@@ -1,4 +1,4 @@
-use Rattle.tabled_draw.proofs.Common.{[], ap, arith, get_or, length, map, subst, sym, ◌++◌, ◌<◌, ◌∙◌, ◌∷◌, ◌≡◌, Draws}
+use Rattle.tabled_draw.proofs.Common.{[], ap, arith, get_or, length, map, subst, sym, ◌++◌, ◌<◌, ◌∙◌, ◌∷◌, Draws}
 use Rattle.tabled_draw.proofs.MarkdownLines.{first-lines, later-lines, lines-more, row-at, wide-at}
 use Rattle.tabled_draw.proofs.Pens.{draws-as, draws-then}
 use Rattle.tabled_draw.specs.Markdown.{dashes_line, row_line}

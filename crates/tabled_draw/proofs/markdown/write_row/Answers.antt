@@ -1,5 +1,4 @@
 use Rattle.std.specs.Prelude.{chars}
-use Rattle.std.specs.String.{string_bytes}
 use Rattle.tabled_draw.proofs.Common.{[], aligned, alignment_in, ap, ap₂, arith, each, get_or, length, map, sym, ◌++◌, ◌∙◌, ◌∷◌, ◌≡◌, ℕ}
 use Rattle.tabled_draw.proofs.Each.{each-more}
 use Rattle.tabled_draw.proofs.MarkdownLines.{characters-at, line-ended}

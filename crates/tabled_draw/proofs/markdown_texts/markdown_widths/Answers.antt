@@ -1,7 +1,7 @@
-use Rattle.tabled_draw.proofs.Common.{[], ap, arith, get_or, largest, length, length-map, map, max, subst, sym, text_width, ◌<◌, ◌∙◌, ◌≡◌}
+use Rattle.tabled_draw.proofs.Common.{[], ap, arith, get_or, largest, length, length-map, map, subst, sym, text_width, ◌<◌, ◌∙◌, ◌≡◌}
 use Rattle.tabled_draw.proofs.MarkdownLines.{row-at, wide-at, width-more, widths-all, length-rows}
 use Rattle.tabled_draw.specs.MarkdownTexts.{characters, rows_of_characters}
-use Rattle.tabled_draw.proofs.markdown_texts.column_widths.Goals as goal
+use Rattle.tabled_draw.proofs.markdown_texts.markdown_widths.Goals as goal
 
 pub raise-requires : goal.raise-requires
 raise-requires c =
@@ -20,4 +20,4 @@ loop-row-preserved c =
 pub returns : goal.returns
 returns c =
     let all : c.loop-row.row-index ≡ length c.args.rows.now = omega (arith, c.loop-row-test.false, c.loop-row.auto.row-index-end) in
-    widths-all (rows_of_characters c.args.rows.now) c.args.columns c.loop-row.widths.items c.loop-row.invariant.long (λ j inside. c.loop-row.invariant.raised j inside ∙ ap (λ n. max 3 (largest n (λ i. text_width (get_or (get_or (rows_of_characters c.args.rows.now) i []) j [])))) (all ∙ sym (length-rows c.args.rows.now)))
+    widths-all (rows_of_characters c.args.rows.now) c.args.columns c.loop-row.widths.items c.loop-row.invariant.long (λ j inside. c.loop-row.invariant.raised j inside ∙ ap (λ n. largest 3 n (λ i. text_width (get_or (get_or (rows_of_characters c.args.rows.now) i []) j []))) (all ∙ sym (length-rows c.args.rows.now)))

@@ -1,9 +1,0 @@
-use Rattle.tabled_draw.proofs.Common.{[], get_or, largest, length, max, text_width, ℕ, ◌<◌, ◌≡◌}
-use Rattle.tabled_draw.specs.MarkdownTexts.{rows_of_characters}
-use Rattle.tabled_draw.proofs.markdown_texts.column_widths.Given as goal
-
-abbrev pub invariant-loop-row : goal.invariant-loop-row
-invariant-loop-row l = record {
-  long : length l.widths.items ≡ l.fn.columns;
-  raised : (j : ℕ) → j < l.fn.columns → get_or l.widths.items j 0 ≡ max 3 (largest l.row-index (λ i. text_width (get_or (get_or (rows_of_characters l.rows) i []) j [])));
-}
