@@ -1,10 +1,10 @@
 -- The lines of Markdown, as they are drawn.
 use Rattle.std.specs.Global.{Global, Vec}
-use Rattle.std.specs.Prelude.{Err, Ok, OnOk, Result, String}
-use Rattle.tabled_draw.proofs.Common.{[], Alignment, Draws, List, Option, Pen, add-one, ap, ap₂, append-nil, arith, cond, each, eq-eqb, ext_get_or, get_or, get_or-map, largest, length, map, max, ne_eqb, refl, suc, sym, text_width, with_newlines, zero, ℕ, ◌++◌, ◌+◌, ◌<◌, ◌∙◌, ◌∷◌, ◌≡◌, ◌≢◌}
+use Rattle.std.specs.Prelude.{String}
+use Rattle.tabled_draw.proofs.Common.{[], Alignment, Draws, List, Option, Pen, add-one, ap, ap₂, append-nil, arith, cases_lt, cond, inl, inr, ◌⊎◌, ◌≤◌, each, eq-eqb, ext_get_or, get_or, get_or-map, largest, length, map, max, ne_eqb, refl, suc, sym, text_width, with_newlines, zero, ℕ, ◌++◌, ◌+◌, ◌<◌, ◌∙◌, ◌∷◌, ◌≡◌, ◌≢◌}
 use Rattle.std.proofs.lemmas.Grind.{flat_map-append}
-use Rattle.tabled_draw.proofs.Each.{each-more, get-singles, length-singles}
-use Rattle.tabled_draw.specs.Markdown.{markdown_width, markdown_widths, dashes_line, lines_at, row_line}
+use Rattle.tabled_draw.proofs.Each.{each-more, get-singles, length-singles, split-each}
+use Rattle.tabled_draw.specs.Markdown.{markdown_width, markdown_widths, dashes_line, lines_at, lines_of, row_line}
 use Rattle.tabled_grid.specs.Evenness.{AreWide}
 use Rattle.tabled_grid.specs.Grid.{map_items}
 use Rattle.tabled_draw.proofs.Pens.{draws-as, draws-then}
@@ -16,9 +16,8 @@ characters-at row j text less is = ap characters is ∙ sym (get_or-map characte
 
 -- a line whose parts are drawn is ended by a bar and a newline
 module _ {W : Type 0} {contents : W → Option (List ℕ)} where
-  pub line-ended : {T E : Type 0} (r : Result T E) (a b c d : Pen W) (j n : ℕ) (part : ℕ → List ℕ) → j ≡ n → Draws contents a b (each j part) → Draws contents b c (124 ∷ []) → OnOk r (Draws contents c d (10 ∷ [])) → OnOk r (Draws contents a d ((each n part ++ (124 ∷ [])) ++ (10 ∷ [])))
-  line-ended (Ok x) a b c d j n part all drawn bar end = draws-then (draws-then (draws-as (ap (λ k. each k part) all) drawn) bar) end
-  line-ended (Err e) a b c d j n part all drawn bar end = tt
+  pub line-ended : {a b c d : Pen W} {j n : ℕ} (part : ℕ → List ℕ) → j ≡ n → Draws contents a b (each j part) → Draws contents b c (124 ∷ []) → Draws contents c d (10 ∷ []) → Draws contents a d ((each n part ++ (124 ∷ [])) ++ (10 ∷ []))
+  line-ended part all drawn bar end = draws-then (draws-then (draws-as (ap (λ k. each k part) all) drawn) bar) end
 
 -- ---- rows
 
@@ -49,6 +48,21 @@ module _ (aligns : List Alignment) (widths : List ℕ) (rows : List (List (List 
 
   pub later-lines : (i : ℕ) → i ≢ 0 → with_newlines (lines_at aligns widths rows i) ≡ row_line aligns widths (get_or rows i []) ++ (10 ∷ [])
   later-lines i later = ap (λ b. with_newlines (row_line aligns widths (get_or rows i []) ∷ cond b (dashes_line aligns widths ∷ []) [])) (ne_eqb i 0 later) ∙ append-nil (row_line aligns widths (get_or rows i []) ++ (10 ∷ []))
+
+module _ (aligns : List Alignment) (widths : List ℕ) (rows : List (List (List ℕ))) where
+  -- the lines that are left behind those of some rows
+  pub lines-left : (k n : ℕ) → k ≤ n → (left : List ℕ) × (with_newlines (each k (lines_at aligns widths rows)) ++ left ≡ with_newlines (each n (lines_at aligns widths rows)))
+  lines-left k n less = left (cases_lt k n)
+    where
+      left : (k < n) ⊎ (n ≤ k) → (left : List ℕ) × (with_newlines (each k (lines_at aligns widths rows)) ++ left ≡ with_newlines (each n (lines_at aligns widths rows)))
+      left (inl some) =
+          let split = split-each (lines_at aligns widths rows) n k some in
+          (with_newlines (lines_at aligns widths rows k ++ split.rest), sym (ap with_newlines split.is ∙ flat_map-append (λ l. l ++ (10 ∷ [])) (each k (lines_at aligns widths rows)) (lines_at aligns widths rows k ++ split.rest)))
+      left (inr none) = ([], append-nil (with_newlines (each k (lines_at aligns widths rows))) ∙ ap (λ i. with_newlines (each i (lines_at aligns widths rows))) (let e : k ≡ n = omega (arith, less, none) in e))
+
+  -- where there are columns, there is no other line
+  pub lines-some : (n : ℕ) → length widths ≢ 0 → n ≡ length rows → with_newlines (each n (lines_at aligns widths rows)) ≡ with_newlines (lines_of aligns widths rows)
+  lines-some n some all = ap (λ k. with_newlines (each k (lines_at aligns widths rows))) all ∙ ap (λ b. with_newlines (cond b [] (each (length rows) (lines_at aligns widths rows)))) (sym (ne_eqb (length widths) 0 some))
 
 -- ---- the widths of columns
 

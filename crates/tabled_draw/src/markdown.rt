@@ -1,15 +1,17 @@
 //! Tables as Markdown.
 
-ghost use Rattle.std.specs.Prelude.{◌≡◌, ◌++◌, ◌∷◌, [], IfOk, OnOk, chars, length, map, replicate};
+ghost use Rattle.std.specs.Prelude.{◌≡◌, ◌++◌, ◌∷◌, [], IfErr, IfOk, OnErr, OnOk, chars, length, map, replicate};
 ghost use Rattle.std.specs.Io.KnownBytes.{Appends};
 ghost use Rattle.tabled_draw.specs.Alignments.{aligned};
 ghost use Rattle.tabled_draw.specs.Each.{each};
+ghost use Rattle.tabled_draw.specs.Failures.{LeavesSome};
 ghost use Rattle.tabled_draw.specs.Markdown.{dashes, dashes_line, first_dash, last_dash, lines_at, markdown, row_line};
 ghost use Rattle.tabled_draw.specs.MarkdownTexts.{characters, rows_of_characters};
 ghost use Rattle.tabled_draw.specs.Pens.{Draws};
 ghost use Rattle.tabled_draw.specs.Picture.{with_newlines};
 ghost use Rattle.tabled_grid.specs.Evenness.{AreWide};
 ghost use Rattle.tabled_grid.specs.Grid.{map_grid, map_items};
+ghost use Rattle.tabled_held.specs.Sent.{IsCutShort};
 
 use crate::alignment::{Alignment, alignment_in, indent};
 use crate::markdown_texts::{markdown_widths, texts_apart};
@@ -27,7 +29,8 @@ use tabled_width::columns_of;
 /// has the text, and the others are empty. A table without cells has no line.
 ///
 /// All memory is asked for before the first byte is written: refused, this is an error of the kind `OutOfMemory`, and
-/// nothing is written. Any other error is the writer's. It doesn't flush the writer.
+/// nothing is written. Any other error is the writer's, which got the first bytes of the lines and not all. It doesn't
+/// flush the writer.
 ///
 /// Of this project: `Style::markdown` draws texts as they are, as the original crate does.
 pub fn draw_markdown<W, R>(
@@ -43,6 +46,8 @@ where
     R::Cell: CellText,
     requires well { R.is_well_formed records.now }
     ensures drawn { OnOk result (Appends (W.contents writer.old) (W.contents writer.new)
+        (markdown alignments.now (map_grid R.Cell.text_of (R.grid records.now)) cfg.now)) }
+    ensures failed { IfErr result (λ error. LeavesSome error (W.contents writer.old) (W.contents writer.new)
         (markdown alignments.now (map_grid R.Cell.text_of (R.grid records.now)) cfg.now)) }
 {
     let markdown = Markdown::new(alloc, records, cfg, alignments)?;
@@ -63,7 +68,7 @@ pub struct Markdown<'a> {
 }
 
 impl<'a> Model for Markdown<'a> {
-    ghost use Rattle.std.specs.Prelude.{◌≡◌, ℕ, [], List, length};
+    ghost use Rattle.std.specs.Prelude.{◌≡◌, ℕ, [], List, None, length};
     ghost use Rattle.tabled_draw.specs.Markdown.{lines_of};
     ghost use Rattle.tabled_draw.specs.MarkdownTexts.{rows_of_characters};
     ghost use Rattle.tabled_draw.specs.Picture.{bytes_of_lines};
@@ -74,7 +79,7 @@ impl<'a> Model for Markdown<'a> {
 
     ghost view = { λ a. bytes_of_lines (lines_of a.alignments.now a.widths.items (rows_of_characters a.rows.items)) };
 
-    ghost invariant = { λ a. AreWide (length a.widths.items) (map_items a.rows.items) × (a.held.bytes ≡ []) };
+    ghost invariant = { λ a. AreWide (length a.widths.items) (map_items a.rows.items) × (a.held.bytes ≡ []) × (a.held.failure ≡ None) };
 }
 
 impl<'a> Markdown<'a> {
@@ -103,9 +108,11 @@ impl<'a> Markdown<'a> {
         })
     }
 
-    /// Writes the lines, part by part. It takes no memory and doesn't flush the writer.
+    /// Writes the lines, part by part. It takes no memory and doesn't flush the writer. Where the writer fails, this is
+    /// told, and it got the first bytes of the lines and not all.
     pub fn write<W: Write>(self, writer: &mut W) -> io::Result<()>
         ensures written { OnOk result (Appends (W.contents writer.old) (W.contents writer.new) self.entry) }
+        ensures failed { OnErr result (IsCutShort (W.contents writer.old) (W.contents writer.new) self.entry) }
     {
         let Markdown {
             rows,
@@ -117,11 +124,11 @@ impl<'a> Markdown<'a> {
             return Ok(());
         }
         let mut pen = Pen::new(writer, held);
-        write_lines(&mut pen, &rows, &widths, alignments)?;
-        let written = pen.finish()?;
+        write_lines(&mut pen, &rows, &widths, alignments);
+        let (written, outcome) = pen.finish();
         // No effect: the proof reads here what the writer got.
         let _ = &*written;
-        Ok(())
+        outcome
     }
 }
 
@@ -131,18 +138,20 @@ fn write_lines<W: Write>(
     rows: &[Vec<String>],
     widths: &[usize],
     alignments: &[Alignment],
-) -> io::Result<()>
+)
     requires { AreWide (length widths.now) (map_items rows.now) }
-    ensures { OnOk result (Draws W.contents pen.old pen.new (
-        with_newlines (each (length rows.now) (lines_at alignments.now widths.now (rows_of_characters rows.now))))) }
+    ensures { Draws W.contents pen.old pen.new (
+        with_newlines (each (length rows.now) (lines_at alignments.now widths.now (rows_of_characters rows.now)))) }
 {
     for i in 0..rows.len() {
-        write_row(pen, &rows[i], widths, alignments)?;
+        write_row(pen, &rows[i], widths, alignments);
         if i == 0 {
-            write_dashes_line(pen, widths, alignments)?;
+            write_dashes_line(pen, widths, alignments);
+        }
+        if pen.has_failed() {
+            return;
         }
     }
-    Ok(())
 }
 
 /// Writes the line of a row.
@@ -151,16 +160,16 @@ fn write_row<W: Write>(
     row: &[String],
     widths: &[usize],
     alignments: &[Alignment],
-) -> io::Result<()>
+)
     requires { length row.now ≡ length widths.now }
-    ensures { OnOk result (Draws W.contents pen.old pen.new (row_line alignments.now widths.now (map characters row.now) ++ 10 ∷ [])) }
+    ensures { Draws W.contents pen.old pen.new (row_line alignments.now widths.now (map characters row.now) ++ 10 ∷ []) }
 {
     for j in 0..widths.len() {
         pen.draw('|');
         write_cell(pen, alignment_in(alignments, j), &row[j], widths[j]);
     }
     pen.draw('|');
-    pen.end_line()
+    pen.end_line();
 }
 
 /// Writes what stands for a text, aligned in its column, with one blank more at both sides.
@@ -177,19 +186,15 @@ fn write_cell<W: Write>(pen: &mut Pen<'_, W>, alignment: Alignment, text: &str, 
 }
 
 /// Writes the line of dashes.
-fn write_dashes_line<W: Write>(
-    pen: &mut Pen<'_, W>,
-    widths: &[usize],
-    alignments: &[Alignment],
-) -> io::Result<()>
-    ensures { OnOk result (Draws W.contents pen.old pen.new (dashes_line alignments.now widths.now ++ 10 ∷ [])) }
+fn write_dashes_line<W: Write>(pen: &mut Pen<'_, W>, widths: &[usize], alignments: &[Alignment])
+    ensures { Draws W.contents pen.old pen.new (dashes_line alignments.now widths.now ++ 10 ∷ []) }
 {
     for j in 0..widths.len() {
         pen.draw('|');
         write_dashes(pen, alignment_in(alignments, j), widths[j]);
     }
     pen.draw('|');
-    pen.end_line()
+    pen.end_line();
 }
 
 /// Writes the dashes of a column, whose ends say how its texts are aligned.

@@ -16,4 +16,4 @@ pub returns : goal.returns
 returns g c =
     let line = λ (j : ℕ). 124 ∷ aligned (alignment_in c.args.alignments.now j) (get_or c.args.widths.now j 0) (get_or (map characters c.args.row.now) j []) in
     let all : c.loop-j.j ≡ length c.args.widths.now = omega (arith, c.loop-j-test.false, c.loop-j.auto.j-end) in
-    line-ended c.end_line.result _ _ _ _ _ _ line all c.loop-j.invariant c.draw-2.ensures c.end_line.ensures
+    line-ended line all c.loop-j.invariant c.draw-2.ensures c.end_line.ensures

@@ -10,7 +10,7 @@ use Rattle.tabled_draw.proofs.markdown.Markdown.new.Goals as goal
 pub invariant_of-result : goal.invariant_of-result
 invariant_of-result g c =
     let widths = ap length c.in_ok-widths.ensures ∙ length-singles (markdown_width (rows_of_characters c.deref.result.now)) c.count_columns.result ∙ c.count_columns.ensures.columns in
-    (subst (λ n. AreWide n (map_items c.in_ok-rows.rows.items)) (sym widths) c.in_ok-rows.ensures.wide, c.in_ok-held.ensures.empty)
+    (subst (λ n. AreWide n (map_items c.in_ok-rows.rows.items)) (sym widths) c.in_ok-rows.ensures.wide, c.in_ok-held.ensures.empty, c.in_ok-held.ensures.works)
 
 pub returns : goal.returns
 unfolding markdown
