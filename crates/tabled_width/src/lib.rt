@@ -4,6 +4,8 @@
 mod columns;
 pub mod laws;
 mod pieces;
+#[cfg(test)]
+mod tests;
 mod widest;
 mod wrapping;
 
