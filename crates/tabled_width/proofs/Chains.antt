@@ -34,7 +34,7 @@ Chain [] = Unit {0}
 Chain (p ∷ ps) = IsSome p × (Next p ps × Chain ps)
 
 -- the first piece begins as it has begun
-from_head : (c : ℕ) (xs cs : List ℕ) → (ys : List ℕ) × (rest : List (List ℕ)) × (pieces_from (c ∷ xs) cs ≡ (c ∷ ys) ∷ rest)
+pub from_head : (c : ℕ) (xs cs : List ℕ) → (ys : List ℕ) × (rest : List (List ℕ)) × (pieces_from (c ∷ xs) cs ≡ (c ∷ ys) ∷ rest)
 from_head c xs [] = (xs, [], refl)
 from_head c xs (d ∷ cs) = by (stays (c ∷ xs) d) (from_head c (xs ++ d ∷ []) cs)
   where

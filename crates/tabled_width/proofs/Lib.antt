@@ -9,6 +9,7 @@ pub mod First
 pub mod Flags
 pub mod LigatureSteps
 pub mod Ligatures
+pub mod OwnPieces
 pub mod PieceTexts
 pub mod Reading
 pub mod Scanning
