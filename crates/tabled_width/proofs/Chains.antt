@@ -86,7 +86,7 @@ line-last c cs h e =
     let whole : IsLine (end.front ++ end.end ∷ []) = subst IsLine end.is h in
     line-head end.end [] (line-parts end.front (end.end ∷ []) whole).1 (sym (ap last_of end.is ∙ more-last end.front end.end) ∙ e)
 
-concat-append : (ps qs : List (List ℕ)) → concat (ps ++ qs) ≡ concat ps ++ concat qs
+pub concat-append : (ps qs : List (List ℕ)) → concat (ps ++ qs) ≡ concat ps ++ concat qs
 concat-append [] qs = refl
 concat-append (p ∷ ps) qs = ap (λ xs. p ++ xs) (concat-append ps qs) ∙ sym (append_assoc p (concat ps) (concat qs))
 

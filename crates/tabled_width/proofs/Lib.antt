@@ -17,5 +17,6 @@ pub mod Spaces
 pub mod Tables
 pub mod Untouched
 pub mod WrapBytes
+pub mod WrapFacts
 pub mod WrapFits
 pub mod WrapLines

@@ -1,6 +1,6 @@
 -- A piece by itself is one piece, and has no newline unless it is one.
 use Rattle.std.proofs.Common.{[], ◌&&◌, ◌++◌, ◌==◌, ◌∙◌, ◌∷◌, ◌≡◌, ◌≢◌, ◌⊎◌, ◌||◌, Bool, List, ap, ap₂, append-nil, append_assoc, cond, eqb-true, false, inl, inr, map, ne_eqb, not, refl, subst, sym, true, ℕ}
-use Rattle.std.proofs.lemmas.Bool.{and_parts, cases_Bool, eqb-false, false≢true, not-true}
+use Rattle.std.proofs.lemmas.Bool.{and_parts, cases_Bool, eqb-false, false≢true}
 use Rattle.std.specs.List.{AllByRecursion, concat, list_all, onto_first, slice_split}
 use Rattle.tabled_width.proofs.Chains.{from_head, line-head, line-parts}
 use Rattle.tabled_width.proofs.PieceTexts.{concat-pieces}

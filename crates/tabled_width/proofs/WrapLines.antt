@@ -166,7 +166,7 @@ put_words n used (p ∷ line) h = by (cases_Bool (is_just 32 p)) (λ k. put_word
         word more other ∙ sym (ap₂ (λ w ws. broken n used w ++ with_words n (last_used n used w) ws) (ap first_part split ∙ first_onto p words) (ap other_parts split ∙ others_onto p words))
 
 -- a line
-put-line : (n : ℕ) (keeps : Bool) (line : List (List ℕ)) → IsLine line → put_from n keeps None line ≡ wrapped_line n keeps line
+pub put-line : (n : ℕ) (keeps : Bool) (line : List (List ℕ)) → IsLine line → put_from n keeps None line ≡ wrapped_line n keeps line
 put-line n false line h = put_anywhere n None line h
 put-line n true line h = put_words n None line h ∙ ap (words_wrapped n) (sym (in_parts (is_just 32) line))
 

@@ -1,10 +1,9 @@
 -- What holds of every text that is wrapped.
-use Rattle.std.specs.Prelude.{◌≡◌, ◌≤◌, ◌⊎◌, ◌==◌, ◌&&◌, ℕ, Bool, List, [], ◌∷◌, length, map, not, true}
-use Rattle.std.specs.List.{AllByRecursion, concat, filter, flat_map, join_with_byte, list_all, slice_split}
+use Rattle.std.specs.Prelude.{◌≡◌, ◌≤◌, ◌⊎◌, ◌==◌, ◌&&◌, ℕ, Bool, List, [], ◌∷◌, map, not}
+use Rattle.std.specs.List.{AllByRecursion, filter, join_with_byte, slice_split}
 use Rattle.tabled_width.specs.Columns.{text_width}
 use Rattle.tabled_width.specs.Laws.{IsLine}
 use Rattle.tabled_width.specs.Pieces.{pieces}
-use Rattle.tabled_width.specs.Wraps.{is_empty}
 
 -- the lines that newlines part
 abbrev pub lines_in : List ℕ → List (List ℕ)
