@@ -1,4 +1,4 @@
--- What holds of pieces of every line.
+-- What holds of the pieces of every line.
 use Rattle.std.specs.Prelude.{◌≡◌, ◌+◌, ◌≤◌, ◌==◌, ◌++◌, ℕ, List, ◌∷◌, not, true}
 use Rattle.std.specs.List.{concat, list_all}
 use Rattle.tabled_width.specs.Columns.{text_width}
