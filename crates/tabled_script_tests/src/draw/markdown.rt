@@ -16,15 +16,15 @@ row\t\\\\\t<
 span\t1\t0\t1\t2
 =
 | a\\|b | x<br>y |
-|------|--------|
+|------|-------:|
 | m    |        |
-| \\\\   |     \\< |
+| \\\\   |   &lt; |
 
 -
 row\t<br>\t\\\\|\\n\\n
 =
-| \\<br> | \\\\\\|<br><br> |
-|-------|--------------|
+| &lt;br> | \\\\\\|<br><br> |
+|---------|--------------|
 
 c
 row\t\u{6f22}\u{5b57}\\tx\t*b*
@@ -32,9 +32,21 @@ row\t1\t22
 rspan\t2\tcell\t0\t1
 cspan\t-1\tcell\t1\t1
 =
-| \u{6f22}\u{5b57}\u{2409}x | *b* |
-|--------|-----|
-|   22   |     |";
+| \u{6f22}\u{5b57}&#9;x | \\*b\\* |
+|:---------:|:-----:|
+|    22     |       |
+
+-
+row\t a  b \thttp://a.b<b>\twww.a.b&
+=
+| &#32;a &#32;b&#32; | http\\://a.b&lt;b> | www\\.a.b&amp; |
+|--------------------|-------------------|---------------|
+
+r
+row\t
+=
+|     |
+|----:|";
 
 /// The table of a script as Markdown, and nothing of a faulty one.
 fn marked(alloc: Global, script: &str, aligns: &[Alignment]) -> Result<String, AllocError> {

@@ -128,7 +128,7 @@ fn arguments_ask_for_steps_and_forms(rt: HostRuntime) -> Result<(), Fail> {
             "",
             "row\ta|b\tx\\ny\nrow\t1\t2\nspan\t1\t0\t1\t2\n",
             0,
-            "| a\\|b  | x<br>y |\n|-------|--------|\n| \\<br> |        |\n",
+            "| a\\|b    | x<br>y |\n|---------|-------:|\n| &lt;br> |        |\n",
             "",
         ),
         (
