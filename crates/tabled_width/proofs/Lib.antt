@@ -20,3 +20,4 @@ pub mod WrapBytes
 pub mod WrapFacts
 pub mod WrapFits
 pub mod WrapLines
+pub mod WrapWords

@@ -24,32 +24,32 @@ use borrow.Author.Tests.{le-leb, leb-true}
 -- ---- what is put for a piece, by cases
 
 -- a blank turns the line, or goes
-abbrev turns : ℕ → Bool → Option ℕ → List ℕ → List (List ℕ) → Bool
+abbrev pub turns : ℕ → Bool → Option ℕ → List ℕ → List (List ℕ) → Bool
 turns n keeps used p ps = keeps && (is_just 32 p && not (word_fits n used ps))
 
-by-placed : (n : ℕ) (keeps : Bool) (used : Option ℕ) (p : List ℕ) (ps : List (List ℕ)) (P : List ℕ → Type 0)
+pub by-placed : (n : ℕ) (keeps : Bool) (used : Option ℕ) (p : List ℕ) (ps : List (List ℕ)) (P : List ℕ → Type 0)
     → (p ≡ 10 ∷ [] → P (10 ∷ put_from n keeps None ps))
     → (p ≡ 32 ∷ [] → P (10 ∷ put_from n keeps None ps))
     → (p ≡ 32 ∷ [] → begins_word ps ≡ false → P (put_from n keeps used ps))
-    → (is_just 10 p ≡ false → fits n used (text_width p) ≡ true → P (p ++ put_from n keeps (Some (unwrap_or used 0 + text_width p)) ps))
-    → (is_just 10 p ≡ false → fits n used (text_width p) ≡ false → P (10 ∷ (p ++ put_from n keeps (Some (text_width p)) ps)))
+    → (is_just 10 p ≡ false → turns n keeps used p ps ≡ false → fits n used (text_width p) ≡ true → P (p ++ put_from n keeps (Some (unwrap_or used 0 + text_width p)) ps))
+    → (is_just 10 p ≡ false → turns n keeps used p ps ≡ false → fits n used (text_width p) ≡ false → P (10 ∷ (p ++ put_from n keeps (Some (text_width p)) ps)))
     → P (put_from n keeps used (p ∷ ps))
 by-placed n keeps used p ps P ends turn goes fit next = choose (cases_Bool (is_just 10 p))
   where
     Put : Placed → List ℕ
     Put q = put_by q p ++ put_from n keeps q.used ps
 
-    in_line : is_just 10 p ≡ false → P (put_by (placed_in_line n used (text_width p)) p ++ put_from n keeps (Some (used_then n used (text_width p))) ps)
-    in_line apart = by (cases_Bool (fits n used (text_width p)))
+    in_line : is_just 10 p ≡ false → turns n keeps used p ps ≡ false → P (put_by (placed_in_line n used (text_width p)) p ++ put_from n keeps (Some (used_then n used (text_width p))) ps)
+    in_line apart stays_in = by (cases_Bool (fits n used (text_width p)))
       where
         by : (fits n used (text_width p) ≡ true) ⊎ (fits n used (text_width p) ≡ false) → P ((cond (not (fits n used (text_width p))) (10 ∷ []) [] ++ p) ++ put_from n keeps (Some (cond (fits n used (text_width p)) (unwrap_or used 0 + text_width p) (text_width p))) ps)
-        by (inl is) = rw is (fit apart is)
-        by (inr other) = rw other (next apart other)
+        by (inl is) = rw is (fit apart stays_in is)
+        by (inr other) = rw other (next apart stays_in other)
 
     later : is_just 10 p ≡ false → (turns n keeps used p ps ≡ true) ⊎ (turns n keeps used p ps ≡ false) → P (put_from n keeps used (p ∷ ps))
     later apart (inr not_so) =
         let is : placed n keeps used p ps ≡ placed_in_line n used (text_width p) = rw (apart, not_so) refl in
-        subst P (ap (λ (q : Placed). put_by q p ++ put_from n keeps q.used ps) (sym is)) (in_line apart)
+        subst P (ap (λ (q : Placed). put_by q p ++ put_from n keeps q.used ps) (sym is)) (in_line apart not_so)
     later apart (inl so) =
         let blank = just-is 32 p (and_parts (is_just 32 p) (not (word_fits n used ps)) (and_parts keeps (is_just 32 p && not (word_fits n used ps)) so).1).0 in
         by blank (cases_Bool (begins_word ps))
@@ -76,8 +76,8 @@ put-kept n keeps used (p ∷ ps) = by-placed n keeps used p ps (λ cs. filter is
     (λ is. rw is (put-kept n keeps None ps))
     (λ is. rw is (put-kept n keeps None ps))
     (λ is none. rw is (put-kept n keeps used ps))
-    (λ apart fit. filter-append is_of_word p (put_from n keeps (Some (unwrap_or used 0 + text_width p)) ps) ∙ ap (λ xs. filter is_of_word p ++ xs) (put-kept n keeps (Some (unwrap_or used 0 + text_width p)) ps) ∙ sym (filter-append is_of_word p (concat ps)))
-    (λ apart over. filter-append is_of_word p (put_from n keeps (Some (text_width p)) ps) ∙ ap (λ xs. filter is_of_word p ++ xs) (put-kept n keeps (Some (text_width p)) ps) ∙ sym (filter-append is_of_word p (concat ps)))
+    (λ apart _ fit. filter-append is_of_word p (put_from n keeps (Some (unwrap_or used 0 + text_width p)) ps) ∙ ap (λ xs. filter is_of_word p ++ xs) (put-kept n keeps (Some (unwrap_or used 0 + text_width p)) ps) ∙ sym (filter-append is_of_word p (concat ps)))
+    (λ apart _ over. filter-append is_of_word p (put_from n keeps (Some (text_width p)) ps) ∙ ap (λ xs. filter is_of_word p ++ xs) (put-kept n keeps (Some (text_width p)) ps) ∙ sym (filter-append is_of_word p (concat ps)))
 
 -- ---- lines
 
@@ -174,10 +174,10 @@ put-narrow n keeps (p ∷ ps) line used is h l all = by-placed n keeps used p ps
     (λ _. turn (put-narrow n keeps ps [] None refl (chain-back (p ∷ []) ps (chain-back line (p ∷ ps) h)) refl all.1))
     (λ _. turn (put-narrow n keeps ps [] None refl (chain-back (p ∷ []) ps (chain-back line (p ∷ ps) h)) refl all.1))
     (λ _ none. put-narrow n keeps ps line used is (chain-past line p ps none h) l all.1)
-    (λ apart fit.
+    (λ apart _ fit.
     let more = put-narrow n keeps ps (line ++ p ∷ []) (Some (unwrap_or used 0 + text_width p)) (filled-more n line used p all.0.one is fit) (subst Chain (sym (append_assoc line (p ∷ []) ps)) h) (subst IsLine (sym (added_piece p)) (line-both (concat line) p l (all.0.line apart))) all.1 in
     subst (AreNarrow n) (ap (λ xs. xs ++ put_from n keeps (Some (unwrap_or used 0 + text_width p)) ps) (added_piece p) ∙ append_assoc (concat line) p (put_from n keeps (Some (unwrap_or used 0 + text_width p)) ps)) more)
-    (λ apart over.
+    (λ apart _ over.
     let more = put-narrow n keeps ps (p ∷ []) (Some (text_width p)) (filled-one n p all.0.one) (chain-back line (p ∷ ps) h) (subst IsLine (sym (append-nil p)) (all.0.line apart)) all.1 in
     rw (line-turn (concat line) (p ++ put_from n keeps (Some (text_width p)) ps) l) (mine, subst (AreNarrow n) (ap (λ xs. xs ++ put_from n keeps (Some (text_width p)) ps) (append-nil p)) more))
   where
