@@ -1,15 +1,15 @@
 -- A script with nothing before it and behind it.
-use Rattle.tabled_script.proofs.Common.{[], ◌++◌, ◌∙◌, ◌≡◌, Appends, Err, Faults, List, Option, ShowsTable, append-nil, ap₂, arith, inl, inr, subst, ℕ}
+use Rattle.tabled_script.proofs.Common.{[], ◌++◌, ◌≡◌, Appends, Err, Faults, List, Option, ShowsTable, ap₂, arith, inl, inr, subst, ℕ}
 use Rattle.std.specs.Prelude.{◌-◌}
 use Rattle.tabled_language.specs.Script.{parse}
 use Rattle.tabled_language.specs.declared.fault.Fault.{Fault}
 use Rattle.tabled_script.specs.Answer.{LeavesUndrawn, ShowsNoTable, fault_line}
-use Rattle.tabled_script.specs.Asked.{whole_lines}
+use Rattle.tabled_script.specs.Asked.{lines_behind, whole_lines}
 use Rattle.tabled_script.specs.declared.form.Form.{Form}
 
 module _ (before behind : List ℕ) (none_before : before ≡ []) (none_behind : behind ≡ []) (input : List ℕ) (old new : Option (List ℕ)) where
   alone : whole_lines before input behind ≡ input
-  alone = ap₂ (λ (bytes others : List ℕ). bytes ++ (input ++ others)) none_before none_behind ∙ append-nil input
+  alone = ap₂ (λ (bytes lines : List ℕ). lines_behind (bytes ++ input) lines) none_before none_behind
 
   pub shown_alone : (form how : Form) → form ≡ how → ShowsTable form (whole_lines before input behind) old new → ShowsTable how input old new
   shown_alone form how is shown = subst (λ (it : Form). ShowsTable it input old new) is (subst (λ bytes. ShowsTable form bytes old new) alone shown)

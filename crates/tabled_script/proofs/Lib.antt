@@ -1,8 +1,10 @@
 pub mod Again
+pub mod AlignmentLetters
 pub mod Alone
 pub mod Changes
 pub mod Common
 pub mod Finished
+pub mod LinesBehind
 pub mod Narrowed
 pub mod OutputLines
 pub mod Sent

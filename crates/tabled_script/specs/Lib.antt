@@ -1,8 +1,11 @@
 pub mod Again
 pub mod Answer
+pub mod Arguments
 pub mod Asked
 pub mod InMemory
 pub mod Narrow
 pub mod Outcome
+pub mod Refusals
+pub mod Requests
 pub mod Sent
 pub mod Status

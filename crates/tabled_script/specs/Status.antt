@@ -5,6 +5,10 @@ use Rattle.std.specs.Prelude.{◌≡◌, ◌⊎◌, ℕ}
 abbrev pub done : ℕ
 done = 0
 
+-- the arguments ask for nothing
+abbrev pub refused : ℕ
+refused = 1
+
 -- a fault was told, or nothing for want of width
 abbrev pub faulty : ℕ
 faulty = 2

@@ -1,11 +1,23 @@
 //! The arguments of the program: options, and then steps.
 
+ghost use Rattle.std.specs.Option.{option_map};
+ghost use Rattle.std.specs.Prelude.{◌≡◌, ◌++◌, ◌⊎◌, IfErr, IfOk, IsTrue, MatchResult, OnOk};
+ghost use Rattle.tabled_language.specs.Output.{escaped, escaped_byte};
+ghost use Rattle.tabled_script.specs.Arguments.{drawn_named, expect, named_in, options, set_to, taken, with_word};
+ghost use Rattle.tabled_script.specs.Refusals.{Refuses, refusal_of};
+ghost use Rattle.tabled_script.specs.Requests.{IsAsked, lacks_value, nothing_asked};
+ghost use Rattle.tabled_script.specs.declared.arguments.Next.TheVariants as next;
+ghost use Rattle.tabled_script.specs.declared.refusal.Refusal.TheVariants as refusal;
+
 use crate::form::Form;
 use crate::refusal::Refusal;
 use crate::request::{CsvFile, Request};
+use crate::setting::{Setting, alignments_of, separator_of};
 use std::alloc::{AllocError, Global};
+use std::marker::Model;
 use tabled_csv::Separator;
 use tabled_draw::{Alignment, Style};
+use tabled_language::length_of;
 
 /// What an argument is, by those before it.
 #[derive(Clone, Copy, PartialEq, Eq)]
@@ -13,12 +25,7 @@ enum Next {
     /// An option, or the verb of the first step.
     Option,
     /// The value of the option before it.
-    Style,
-    Alignments,
-    Width,
-    File,
-    Separator,
-    Form,
+    Value(Setting),
     /// The verb of a step.
     Verb,
     /// A further word of a step, or `then`, which ends it.
@@ -40,7 +47,7 @@ enum Drawn {
     Markdown,
 }
 
-/// The arguments that were taken so far.
+/// The arguments that were taken so far. A contract sees them as what they ask for.
 ///
 /// Of this project.
 #[derive(Drop)]
@@ -57,9 +64,32 @@ pub struct Arguments {
     checks_steps: bool,
 }
 
+impl Model for Arguments {
+    ghost use Rattle.std.specs.Option.{option_map};
+    ghost use Rattle.std.specs.String.{string_bytes};
+    ghost use Rattle.tabled_script.specs.Arguments.{Asked};
+
+    ghost Value = { Asked };
+
+    ghost view = { λ a. record {
+        next = a.next;
+        written = a.written;
+        drawn = a.drawn;
+        alignments = a.alignments.items;
+        width = a.width;
+        file = option_map string_bytes a.file;
+        separator = a.separator;
+        steps = a.steps.items;
+        tells_faults = a.tells_faults;
+        checks_steps = a.checks_steps;
+    } };
+}
+
 impl Arguments {
     /// No argument, which asks for the script and its table as a script.
-    pub fn new(alloc: Global) -> Self {
+    pub fn new(alloc: Global) -> Self
+        ensures { result ≡ nothing_asked }
+    {
         Arguments {
             next: Next::Option,
             written: Written::Script,
@@ -74,55 +104,124 @@ impl Arguments {
         }
     }
 
-    /// Takes an argument behind those before it.
-    pub fn take(&mut self, alloc: Global, argument: &str) -> Result<(), Refusal> {
+    /// Takes an argument behind those before it. It may ask for nothing: an option that there isn't, or a value that an
+    /// option can't have.
+    pub fn take(self, alloc: Global, argument: &str) -> Result<Self, Refusal>
+        ensures taken { IfOk result (λ after. taken argument.now self ≡ Some after) }
+        ensures refused { IfErr result (λ refused. (refused ≡ refusal.OutOfMemory) ⊎ ((taken argument.now self ≡ None) × Refuses argument.now self.next refused)) }
+    {
+        let next = self.next;
+        match self.taken(alloc, argument)? {
+            Some(after) => Ok(after),
+            None => Err(refusal_of(next, String::from_str(alloc, argument)?)),
+        }
+    }
+
+    /// What is asked for once an argument is taken, if it asks for something.
+    fn taken(self, alloc: Global, argument: &str) -> Result<Option<Self>, AllocError>
+        ensures { IfOk result (λ after. after ≡ taken argument.now self) }
+    {
         match self.next {
-            Next::Option if argument.starts_with('-') => return self.take_option(alloc, argument),
-            Next::Option | Next::Verb | Next::Word => return Ok(self.take_word(argument)?),
-            Next::Style => {
-                let Some(style) = Style::named(argument) else {
-                    return Err(Refusal::NoStyle(String::from_str(alloc, argument)?));
+            Next::Value(setting) => self.set(alloc, setting, argument),
+            Next::Option if argument.starts_with('-') => Ok(self.with_option(argument)),
+            Next::Option | Next::Verb | Next::Word => Ok(Some(self.with_word(argument)?)),
+        }
+    }
+
+    /// Sets what an option sets to its value, if it can have that.
+    fn set(
+        mut self,
+        alloc: Global,
+        setting: Setting,
+        value: &str,
+    ) -> Result<Option<Self>, AllocError>
+        ensures { IfOk result (λ after. after ≡ option_map (λ change. expect next.Option (change self)) (set_to setting value.now)) }
+    {
+        match setting {
+            Setting::Style => {
+                let Some(drawn) = drawn_named(value) else {
+                    return Ok(None);
                 };
-                // As Markdown a table has to be escaped, and not only drawn.
-                self.drawn = match argument {
-                    "markdown" => Drawn::Markdown,
-                    _ => Drawn::Style(style),
+                self.drawn = drawn;
+            }
+            Setting::Alignments => {
+                let Some(alignments) = alignments_of(alloc, value.as_bytes())? else {
+                    return Ok(None);
                 };
+                self.alignments = alignments;
             }
-            Next::Alignments => {
-                for letter in argument.chars() {
-                    let Some(alignment) = alignment_of(letter) else {
-                        return Err(Refusal::NoAlignment(String::from_str(alloc, argument)?));
-                    };
-                    self.alignments.push(alignment)?;
-                }
-            }
-            Next::Width => {
-                let Ok(width) = argument.parse::<usize>() else {
-                    return Err(Refusal::NoWidth(String::from_str(alloc, argument)?));
+            Setting::Width => {
+                let Some(width) = length_of(value) else {
+                    return Ok(None);
                 };
                 self.width = Some(width);
             }
-            Next::File => self.file = Some(String::from_str(alloc, argument)?),
-            Next::Separator => {
-                let Some(separator) = separator_of(argument) else {
-                    return Err(Refusal::NoSeparator(String::from_str(alloc, argument)?));
+            Setting::File => self.file = Some(String::from_str(alloc, value)?),
+            Setting::Separator => {
+                let Some(separator) = separator_of(value) else {
+                    return Ok(None);
                 };
                 self.separator = separator;
             }
-            Next::Form => {
-                if argument != "csv" {
-                    return Err(Refusal::NoForm(String::from_str(alloc, argument)?));
+            Setting::Form => {
+                if value != "csv" {
+                    return Ok(None);
                 }
                 self.written = Written::Csv;
             }
         }
         self.next = Next::Option;
-        Ok(())
+        Ok(Some(self))
     }
 
-    /// What was asked for. The bytes of a file are not read yet.
-    pub fn into_request(self, alloc: Global) -> Result<Request, Refusal> {
+    /// What an option asks for, if there is such an option.
+    fn with_option(mut self, option: &str) -> Option<Self>
+        ensures { result ≡ option_map (λ change. change self) (named_in options option.now) }
+    {
+        match option {
+            "--draw" => self.written = Written::Picture,
+            "--check" => self.checks_steps = true,
+            "--tell" => self.tells_faults = true,
+            "--style" => {
+                self.written = Written::Picture;
+                self.next = Next::Value(Setting::Style);
+            }
+            "--align" => {
+                self.written = Written::Picture;
+                self.next = Next::Value(Setting::Alignments);
+            }
+            "--width" => self.next = Next::Value(Setting::Width),
+            "--csv" => self.next = Next::Value(Setting::File),
+            "--separator" => self.next = Next::Value(Setting::Separator),
+            "--to" => self.next = Next::Value(Setting::Form),
+            _ => return None,
+        }
+        Some(self)
+    }
+
+    /// Adds a word to the steps, or ends one.
+    fn with_word(mut self, word: &str) -> Result<Self, AllocError>
+        ensures { IfOk result (λ after. after ≡ with_word word.now self) }
+    {
+        if word == "then" {
+            if self.next == Next::Word {
+                self.steps.push(b'\n')?;
+            }
+            self.next = Next::Verb;
+            return Ok(self);
+        }
+        if self.next == Next::Word {
+            self.steps.push(b'\t')?;
+        }
+        push_escaped(&mut self.steps, word.as_bytes())?;
+        self.next = Next::Word;
+        Ok(self)
+    }
+
+    /// What was asked for. The bytes of a file are not read yet. It is refused where the last option lacks its value.
+    pub fn into_request(self, alloc: Global) -> Result<Request, Refusal>
+        ensures { MatchResult result (IsAsked self) (λ refused. (refused ≡ refusal.NoValue) × IsTrue (lacks_value self.next)) }
+    {
         let Arguments {
             next,
             written,
@@ -135,16 +234,8 @@ impl Arguments {
             tells_faults,
             checks_steps,
         } = self;
-        match next {
-            Next::Option | Next::Verb | Next::Word => {}
-            Next::Style
-            | Next::Alignments
-            | Next::Width
-            | Next::File
-            | Next::Separator
-            | Next::Form => {
-                return Err(Refusal::NoValue);
-            }
+        if let Next::Value(_) = next {
+            return Err(Refusal::NoValue);
         }
         Ok(Request {
             form: match written {
@@ -171,73 +262,49 @@ impl Arguments {
             checks_steps,
         })
     }
+}
 
-    fn take_option(&mut self, alloc: Global, option: &str) -> Result<(), Refusal> {
-        match option {
-            "--draw" => self.written = Written::Picture,
-            "--check" => self.checks_steps = true,
-            "--tell" => self.tells_faults = true,
-            "--style" => {
-                self.written = Written::Picture;
-                self.next = Next::Style;
-            }
-            "--align" => {
-                self.written = Written::Picture;
-                self.next = Next::Alignments;
-            }
-            "--width" => self.next = Next::Width,
-            "--csv" => self.next = Next::File,
-            "--separator" => self.next = Next::Separator,
-            "--to" => self.next = Next::Form,
-            _ => return Err(Refusal::NoOption(String::from_str(alloc, option)?)),
-        }
-        Ok(())
-    }
-
-    /// Adds a word to the steps, or ends one.
-    fn take_word(&mut self, word: &str) -> Result<(), AllocError> {
-        if word == "then" {
-            self.next = Next::Verb;
-            return Ok(());
-        }
-        let separator = match self.next {
-            Next::Word => b'\t',
-            _ => b'\n',
-        };
-        self.next = Next::Word;
-        self.steps.push(separator)?;
-        push_escaped(&mut self.steps, word.as_bytes())
+/// The refusal of an argument, by what it was to be.
+fn refusal_of(next: Next, argument: String) -> Refusal
+    ensures { result ≡ refusal_of next argument }
+{
+    match next {
+        Next::Value(setting) => Refusal::WrongValue(setting, argument),
+        Next::Option | Next::Verb | Next::Word => Refusal::NoOption(argument),
     }
 }
 
-fn alignment_of(letter: char) -> Option<Alignment> {
-    match letter {
-        'l' => Some(Alignment::left()),
-        'c' => Some(Alignment::center()),
-        'r' => Some(Alignment::right()),
-        _ => None,
+/// What a picture is drawn in by a name.
+fn drawn_named(name: &str) -> Option<Drawn>
+    ensures { result ≡ drawn_named name.now }
+{
+    // As Markdown a table has to be escaped, and not only drawn.
+    if name == "markdown" {
+        return Some(Drawn::Markdown);
     }
-}
-
-fn separator_of(name: &str) -> Option<Separator> {
-    if name == "tab" {
-        return Separator::new(b'\t');
-    }
-    match name.as_bytes() {
-        [byte] => Separator::new(*byte),
-        _ => None,
-    }
+    let style = Style::named(name)?;
+    Some(Drawn::Style(style))
 }
 
 /// Adds the word that stands for the bytes of a text.
-fn push_escaped(line: &mut Vec<u8>, text: &[u8]) -> Result<(), AllocError> {
+fn push_escaped(line: &mut Vec<u8>, text: &[u8]) -> Result<(), AllocError>
+    ensures { OnOk result (line.new.items ≡ line.old.items ++ escaped text.now) }
+{
     for byte in text {
-        match *byte {
-            b'\t' => line.extend_from_slice(b"\\t")?,
-            b'\n' => line.extend_from_slice(b"\\n")?,
-            b'\\' => line.extend_from_slice(b"\\\\")?,
-            byte => line.push(byte)?,
-        }
+        push_escaped_byte(line, *byte)?;
+    }
+    Ok(())
+}
+
+/// Adds a byte as it stands in a word.
+fn push_escaped_byte(line: &mut Vec<u8>, byte: u8) -> Result<(), AllocError>
+    ensures { OnOk result (line.new.items ≡ line.old.items ++ escaped_byte byte) }
+{
+    match byte {
+        b'\t' => line.extend_from_slice(b"\\t")?,
+        b'\n' => line.extend_from_slice(b"\\n")?,
+        b'\\' => line.extend_from_slice(b"\\\\")?,
+        _ => line.push(byte)?,
     }
     Ok(())
 }

@@ -16,6 +16,7 @@ mod program;
 mod refusal;
 mod request;
 mod respond;
+mod setting;
 mod source;
 mod telling;
 #[cfg(test)]
@@ -28,5 +29,6 @@ pub use form::Form;
 pub use program::{answer, draw_script, run_script};
 pub use refusal::Refusal;
 pub use request::{CsvFile, Request};
+pub use setting::Setting;
 pub use source::{Unread, read_whole};
 pub use tabled_steps::{Select, Step, run};

@@ -1,6 +1,13 @@
 //! Why a request isn't answered.
 
-use crate::respond::{FAILED, finish};
+ghost use Rattle.std.specs.List.{flat_map};
+ghost use Rattle.std.specs.Prelude.{◌≡◌, ◌++◌, ◌∷◌, IfOk, OnOk};
+ghost use Rattle.std.specs.String.{string_bytes};
+ghost use Rattle.tabled_script.specs.Refusals.{EndsRefused, refusal_line, status_of, value_line};
+ghost use Rattle.tabled_script.specs.declared.setting.Setting.TheVariants as setting;
+
+use crate::respond::{FAILED, OUT_OF_MEMORY, finish};
+use crate::setting::Setting;
 use std::alloc::{AllocError, AllocFailed, Global};
 use std::io::Write;
 use tabled_draw::Style;
@@ -15,15 +22,10 @@ const REFUSED: u8 = 1;
 pub enum Refusal {
     /// There is no such option.
     NoOption(String),
+    /// An option can't have this value.
+    WrongValue(Setting, String),
     /// The last option lacks its value.
     NoValue,
-    NoStyle(String),
-    NoAlignment(String),
-    NoSeparator(String),
-    /// This is no number of columns.
-    NoWidth(String),
-    /// A table can't be written as this.
-    NoForm(String),
     /// An argument isn't UTF-8.
     NotText,
     /// A file can't be read.
@@ -32,54 +34,90 @@ pub enum Refusal {
 }
 
 impl Refusal {
-    /// Says it in a line on `errors`, want of memory on `writer`, and answers a status: 1 for arguments that ask for
-    /// nothing, 3 for want of memory, 4 for a file.
-    pub fn tell<W: Write, E: Write>(self, alloc: Global, writer: &mut W, errors: &mut E) -> u8 {
-        match self.line(alloc) {
-            Ok(line) => {
-                // The status says it, too.
-                let _ = errors.write_all(line.as_bytes());
-                match self {
-                    Refusal::Unread(_) => FAILED,
-                    _ => REFUSED,
-                }
-            }
-            Err(refused) => finish(writer, Err(refused)),
+    /// Tells it and answers its status: 1 for arguments that ask for nothing, 3 for want of memory, 4 for a file. Want of
+    /// memory is written on `writer`, and all others in a line on `errors`; where that can't be written, or memory runs
+    /// out, the status is the same.
+    pub fn tell<W: Write, E: Write>(self, alloc: Global, writer: &mut W, errors: &mut E) -> u8
+        ensures { EndsRefused self result (W.contents writer.old) (W.contents writer.new) }
+    {
+        if let Refusal::OutOfMemory = self {
+            return finish(writer, Err(AllocError));
+        }
+        if let Ok(line) = self.line(alloc) {
+            // The status says it, too.
+            let _ = errors.write_all(line.as_bytes());
+        }
+        self.status()
+    }
+
+    fn status(&self) -> u8
+        ensures { result ≡ status_of self.now }
+    {
+        match self {
+            Refusal::NoOption(_)
+            | Refusal::WrongValue(_, _)
+            | Refusal::NoValue
+            | Refusal::NotText => REFUSED,
+            Refusal::Unread(_) => FAILED,
+            Refusal::OutOfMemory => OUT_OF_MEMORY,
         }
     }
 
-    fn line(&self, alloc: Global) -> Result<String, AllocError> {
+    fn line(&self, alloc: Global) -> Result<String, AllocError>
+        ensures { IfOk result (λ line. string_bytes line ≡ refusal_line self.now) }
+    {
         match self {
             Refusal::NoOption(option) => {
                 format!(in alloc; "there is no option {option}: --help lists them\n")
             }
+            Refusal::WrongValue(setting, value) => value_line(alloc, *setting, value.as_str()),
             Refusal::NoValue => format!(in alloc; "the last option lacks its value\n"),
-            Refusal::NoStyle(name) => {
-                let mut line = format!(in alloc; "there is no style {name}:")?;
-                for style in &Style::NAMES {
-                    line.push(' ')?;
-                    line.push_str(style)?;
-                }
-                line.push('\n')?;
-                Ok(line)
-            }
-            Refusal::NoAlignment(letters) => {
-                format!(in alloc; "columns are aligned by letters l, c and r, not by {letters}\n")
-            }
-            Refusal::NoSeparator(name) => {
-                format!(in alloc;
-                    "{name} is no separator: one character of ASCII, but no quote, or tab\n"
-                )
-            }
-            Refusal::NoWidth(number) => { format!(in alloc; "{number} is no number of columns\n") }
-            Refusal::NoForm(name) => {
-                format!(in alloc; "a table is written --to csv, and not to {name}\n")
-            }
             Refusal::NotText => format!(in alloc; "an argument isn't UTF-8\n"),
             Refusal::Unread(name) => format!(in alloc; "{name} can't be read\n"),
             Refusal::OutOfMemory => Err(AllocError),
         }
     }
+}
+
+/// The line that tells what is wrong with a value.
+fn value_line(alloc: Global, setting: Setting, value: &str) -> Result<String, AllocError>
+    ensures { IfOk result (λ line. string_bytes line ≡ value_line setting value.now) }
+{
+    match setting {
+        Setting::Style => style_line(alloc, value),
+        Setting::Alignments => {
+            format!(in alloc; "columns are aligned by letters l, c and r, not by {value}\n")
+        }
+        Setting::Width => format!(in alloc; "{value} is no number of columns\n"),
+        Setting::File => format!(in alloc; "{value} is no name of a file\n"),
+        Setting::Separator => {
+            format!(in alloc;
+                "{value} is no separator: one character of ASCII, but no quote, or tab\n"
+            )
+        }
+        Setting::Form => format!(in alloc; "a table is written --to csv, and not to {value}\n"),
+    }
+}
+
+/// The line that tells that there is no such style, and which there are.
+fn style_line(alloc: Global, name: &str) -> Result<String, AllocError>
+    ensures { IfOk result (λ line. string_bytes line ≡ value_line setting.Style name.now) }
+{
+    let mut line = format!(in alloc; "there is no style {name}:")?;
+    push_each(&mut line, &Style::NAMES)?;
+    line.push('\n')?;
+    Ok(line)
+}
+
+/// Adds names, each behind a blank.
+fn push_each(line: &mut String, names: &[&str]) -> Result<(), AllocError>
+    ensures { OnOk result (string_bytes line.new ≡ string_bytes line.old ++ flat_map (λ name. 32 ∷ name.now) names.now) }
+{
+    for name in names {
+        line.push(' ')?;
+        line.push_str(name)?;
+    }
+    Ok(())
 }
 
 impl From<AllocError> for Refusal {

@@ -28,7 +28,7 @@ const DONE: u8 = 0;
 pub(crate) const FAULTY: u8 = 2;
 
 /// Memory ran out, and that was written.
-const OUT_OF_MEMORY: u8 = 3;
+pub(crate) const OUT_OF_MEMORY: u8 = 3;
 
 /// Reading or writing failed.
 pub(crate) const FAILED: u8 = 4;

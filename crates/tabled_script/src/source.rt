@@ -1,7 +1,7 @@
 //! The lines that a script is read from.
 
-ghost use Rattle.std.specs.Prelude.{◌≡◌, IfOk, IfSome};
-ghost use Rattle.tabled_script.specs.Asked.{whole_lines};
+ghost use Rattle.std.specs.Prelude.{◌≡◌, IfOk, IfSome, OnOk};
+ghost use Rattle.tabled_script.specs.Asked.{ends_line, lines_behind, whole_lines};
 
 use crate::watched::Watched;
 use std::alloc::{AllocError, Global};
@@ -41,13 +41,14 @@ impl<'a> Source<'a> {
     /// Where the line of a number stands.
     pub(crate) fn place(&self, number: usize) -> Place {
         let len = self.bytes.len().saturating_sub(self.behind);
-        let mut own = 1usize;
+        let mut own = 0usize;
         for byte in self.bytes.iter().take(len) {
             if *byte == b'\n' {
                 own = own.saturating_add(1);
             }
         }
-        if number <= own {
+        // Where lines stand behind the others, each of these has its newline.
+        if number <= own || self.behind == 0 {
             Place::Line(number.saturating_sub(self.before))
         } else {
             Place::Step(number.saturating_sub(own))
@@ -83,7 +84,7 @@ fn begins_with(line: &[u8], word: &[u8]) -> bool {
     }
 }
 
-/// Reads the lines of a reader behind others, and puts further ones behind them.
+/// Reads the lines of a reader behind others, and puts further ones behind them, which begin a line of their own.
 pub fn read_whole<R: Read>(
     before: Vec<u8>,
     reader: &mut R,
@@ -102,8 +103,32 @@ pub fn read_whole<R: Read>(
         }
         return Err(Unread::OutOfMemory);
     }
-    if whole.extend_from_slice(behind).is_err() {
+    if put_behind(&mut whole, behind).is_err() {
         return Err(Unread::OutOfMemory);
     }
     Ok(whole)
+}
+
+/// Puts lines behind others.
+fn put_behind(bytes: &mut Vec<u8>, lines: &[u8]) -> Result<(), AllocError>
+    ensures { OnOk result (bytes.new.items ≡ lines_behind bytes.old.items lines.now) }
+{
+    if lines.is_empty() {
+        return Ok(());
+    }
+    if !ends_line(bytes) {
+        bytes.push(b'\n')?;
+    }
+    bytes.extend_from_slice(lines)?;
+    Ok(())
+}
+
+/// Says whether bytes end with a newline, or there are none.
+fn ends_line(bytes: &[u8]) -> bool
+    ensures { result ≡ ends_line bytes.now }
+{
+    match bytes.last() {
+        Some(byte) => *byte == b'\n',
+        None => true,
+    }
 }

@@ -1,13 +1,11 @@
 //! Texts of tables as CSV: what is written of a table, and what rows are in a script.
 
 ghost use Rattle.std.specs.Io.KnownBytes.{Appends};
-ghost use Rattle.std.specs.List.{flat_map};
 ghost use Rattle.std.specs.Prelude.{◌≡◌, ◌<◌, IfOk, OnErr, OnOk, length, map};
 ghost use Rattle.tabled_csv.specs.Texts.{rows_of, text_of};
 ghost use Rattle.tabled_csv.specs.Writing.{csv_of};
 ghost use Rattle.tabled_grid.specs.Grid.{IsEven, grid_of, map_items};
-ghost use Rattle.tabled_language.specs.Output.{line};
-ghost use Rattle.tabled_script.specs.Asked.{row_line};
+ghost use Rattle.tabled_language.specs.Output.{row_line, row_lines};
 ghost use Rattle.tabled_script.specs.InMemory.{texts_in};
 ghost use Rattle.tabled_script.specs.Outcome.{IfWritten};
 ghost use Rattle.tabled_script.specs.Sent.{Sends};
@@ -40,7 +38,7 @@ pub(crate) fn write_values<W: Write>(
 
 /// The rows of CSV as lines of a script.
 pub(crate) fn row_lines(alloc: Global, rows: &[Vec<&str>]) -> Result<Vec<u8>, AllocError>
-    ensures { IfOk result (λ lines. lines.items ≡ flat_map row_line (rows_of rows.now)) }
+    ensures { IfOk result (λ lines. lines.items ≡ row_lines (rows_of rows.now)) }
 {
     let mut held = Held::new(alloc)?;
     let mut lines = Vec::new(alloc);

@@ -28,7 +28,7 @@ fn request(rt: &HostRuntime) -> Result<Request, Refusal> {
     };
     // The first word is the program's name.
     for word in words.skip(1) {
-        arguments.take(rt.alloc(), word.as_str())?;
+        arguments = arguments.take(rt.alloc(), word.as_str())?;
     }
     let mut request = arguments.into_request(rt.alloc())?;
     if let Some(file) = &mut request.file {

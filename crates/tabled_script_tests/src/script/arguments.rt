@@ -9,7 +9,7 @@ fn request(alloc: Global, arguments: &str, file: &str) -> Result<Request, Refusa
     let mut taken = Arguments::new(alloc);
     for argument in arguments.split('|') {
         if !arguments.is_empty() {
-            taken.take(alloc, argument)?;
+            taken = taken.take(alloc, argument)?;
         }
     }
     let mut request = taken.into_request(alloc)?;
@@ -122,6 +122,23 @@ fn arguments_ask_for_steps_and_forms(rt: HostRuntime) -> Result<(), Fail> {
             "shape\t1\t1\nrow\ta b\n",
             "",
         ),
+        // The last value of an option counts.
+        (
+            "--align|lc|--align|r|row|a b|c d|then|row|x|y",
+            "",
+            "",
+            0,
+            "+-----+-----+\n| a b | c d |\n+-----+-----+\n|   x |   y |\n+-----+-----+\n",
+            "",
+        ),
+        (
+            "--to|csv|--separator|tab|row|a|b c",
+            "",
+            "",
+            0,
+            "a\tb c\n",
+            "",
+        ),
         // Markdown is escaped, and of no width.
         (
             "--width|9|--style|markdown|--align|lr|set|cell|1|0|<br>",
@@ -141,12 +158,29 @@ fn arguments_ask_for_steps_and_forms(rt: HostRuntime) -> Result<(), Fail> {
         ),
         // Faults are told with the words of their lines, if that is asked for.
         ("vmreg", "", "row\ta", 2, "line 2: fault 1\n", ""),
+        ("vmreg", "", "row\ta\n", 2, "line 2: fault 1\n", ""),
+        (
+            "--tell|vmreg",
+            "",
+            "",
+            2,
+            "line 1: fault 1\n",
+            "step 1: fault 1: 'vmreg'\n",
+        ),
+        (
+            "--csv|f|--tell|then|vmerge|then|then|vmreg",
+            "a\nb\n",
+            "",
+            2,
+            "line 2: fault 1\n",
+            "step 2: fault 1: 'vmreg'\n",
+        ),
         (
             "--tell|vmerge|then|vmreg|a b",
             "",
             "row\ta\n",
             2,
-            "line 4: fault 1\n",
+            "line 3: fault 1\n",
             "step 2: fault 1: 'vmreg' 'a b'\n",
         ),
         (
@@ -256,6 +290,7 @@ fn what_cannot_be_asked_is_refused(rt: HostRuntime) -> Result<(), Fail> {
             ":: is no separator: one character of ASCII, but no quote, or tab\n",
         ),
         ("--to|tsv", "a table is written --to csv, and not to tsv\n"),
+        ("--width|+9", "+9 is no number of columns\n"),
     ] {
         let mut written = Vec::new(alloc);
         let mut errors = Vec::new(alloc);

@@ -1,7 +1,7 @@
 use Rattle.tabled_script.proofs.Common.{◌++◌, ◌∙◌, List, ap, ap₂, arith, flat_map, sym, take_all, ℕ}
 use Rattle.std.proofs.lemmas.List.Folds.{flat_map-map}
 use Rattle.tabled_csv.specs.Texts.{texts_of}
-use Rattle.tabled_script.specs.Asked.{row_line}
+use Rattle.tabled_language.specs.Output.{row_line}
 use Rattle.tabled_script.proofs.values.row_lines.Goals as goal
 
 pub returns : goal.returns
