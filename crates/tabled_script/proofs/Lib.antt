@@ -9,3 +9,4 @@ pub mod Narrowed
 pub mod OutputLines
 pub mod Sent
 pub mod Texts
+pub mod Told

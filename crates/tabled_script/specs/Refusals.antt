@@ -39,6 +39,13 @@ abbrev pub EndsRefused : Refusal → ℕ → Option (List ℕ) → Option (List 
 EndsRefused OutOfMemory status old new = (status ≡ failed) ⊎ ((status ≡ out_of_memory) × Appends old new memory_line)
 EndsRefused refusal status old new = (status ≡ status_of refusal) × (new ≡ old)
 
+-- a writer got the first of these bytes: all, some or none
+pub record GetsFirst (old new : Option (List ℕ)) (bytes : List ℕ) : Type 0 where
+  pub sent : List ℕ
+  pub unsent : List ℕ
+  pub parts : bytes ≡ sent ++ unsent
+  pub got : Appends old new sent
+
 -- the line that tells what is wrong with a value
 abbrev pub value_line : Setting → List ℕ → List ℕ
 value_line setting.Style name = codes "there is no style " ++ (name ++ (codes ":" ++ (flat_map (λ style. 32 ∷ style.now) NAMES ++ 10 ∷ [])))

@@ -3,7 +3,7 @@
 ghost use Rattle.std.specs.List.{flat_map};
 ghost use Rattle.std.specs.Prelude.{◌≡◌, ◌++◌, ◌∷◌, IfOk, OnOk};
 ghost use Rattle.std.specs.String.{string_bytes};
-ghost use Rattle.tabled_script.specs.Refusals.{EndsRefused, refusal_line, status_of, value_line};
+ghost use Rattle.tabled_script.specs.Refusals.{EndsRefused, GetsFirst, refusal_line, status_of, value_line};
 ghost use Rattle.tabled_script.specs.declared.setting.Setting.TheVariants as setting;
 
 use crate::respond::{FAILED, OUT_OF_MEMORY, finish};
@@ -11,6 +11,7 @@ use crate::setting::Setting;
 use std::alloc::{AllocError, AllocFailed, Global};
 use std::io::Write;
 use tabled_draw::Style;
+use tabled_held::write_all;
 
 /// The answer to what can't be asked for.
 const REFUSED: u8 = 1;
@@ -37,17 +38,27 @@ impl Refusal {
     /// Tells it and answers its status: 1 for arguments that ask for nothing, 3 for want of memory, 4 for a file. Want of
     /// memory is written on `writer`, and all others in a line on `errors`; where that can't be written, or memory runs
     /// out, the status is the same.
+    #[tactic(auto, using(crate::proofs::Told::gets_none))]
     pub fn tell<W: Write, E: Write>(self, alloc: Global, writer: &mut W, errors: &mut E) -> u8
-        ensures { EndsRefused self result (W.contents writer.old) (W.contents writer.new) }
+        ensures ends { EndsRefused self result (W.contents writer.old) (W.contents writer.new) }
+        ensures told { GetsFirst (E.contents errors.old) (E.contents errors.new) (refusal_line self) }
     {
         if let Refusal::OutOfMemory = self {
             return finish(writer, Err(AllocError));
         }
+        self.tell_line(alloc, errors);
+        self.status()
+    }
+
+    /// Tells its line, if there is memory for it.
+    #[tactic(auto, using(crate::proofs::Told::gets_none, crate::proofs::Told::gets_first))]
+    fn tell_line<E: Write>(&self, alloc: Global, errors: &mut E)
+        ensures { GetsFirst (E.contents errors.old) (E.contents errors.new) (refusal_line self.now) }
+    {
         if let Ok(line) = self.line(alloc) {
             // The status says it, too.
-            let _ = errors.write_all(line.as_bytes());
+            let _ = write_all(errors, line.as_bytes());
         }
-        self.status()
     }
 
     fn status(&self) -> u8
