@@ -6,7 +6,7 @@ pub use Rattle.std.proofs.lemmas.Option.{IfSome_then}
 pub use Rattle.std.specs.Io.KnownBytes.{Appends}
 pub use Rattle.std.specs.Result.{OnOk}
 pub use Rattle.tabled_draw.proofs.Common.{append-nil, append_assoc, length-append}
-pub use Rattle.tabled_grid.proofs.Common.{[], ◌*◌, ◌++◌, ◌+◌, ◌/◌, ◌<◌, ◌∙◌, ◌∷◌, ◌≡◌, ◌≤◌, ◌⊎◌, AllByRecursion, Err, List, None, Ok, Option, Result, Vec, all-append, and_parts, ap, ap₂, arith, common_steps, drop, flat_map, get_or, get_or_default, grid_of, inl, inr, into_iter_items, length, map, map-id, map_grid, map_items, nat_le, ne_eqb, refl, rules, sized, subst, sym, take, take-append-drop, take_all, take_more, true, width_of, ℕ}
+pub use Rattle.tabled_grid.proofs.Common.{[], ◌*◌, ◌++◌, ◌+◌, ◌/◌, ◌<◌, ◌∙◌, ◌∷◌, ◌≡◌, ◌≤◌, ◌⊎◌, AllByRecursion, Err, List, None, Ok, Option, Result, Some, Vec, all-append, and_parts, ap, ap₂, arith, common_steps, drop, flat_map, get_or, get_or_default, grid_of, inl, inr, into_iter_items, length, map, map-id, map_grid, map_items, nat_le, ne_eqb, refl, rules, sized, subst, suc, sym, take, take-append-drop, take_all, take_more, true, width_of, ℕ}
 pub use Rattle.tabled_language.proofs.Common.{Script, all_ascii_digits, bytes_of, codes, escaped, escaped_byte, line, print, span_line, start}
 pub use Rattle.tabled_language.specs.Output.{table_lines}
 pub use Rattle.tabled_language.specs.Parsing.{script_in}

@@ -72,16 +72,16 @@ impl Model for Arguments {
     ghost Value = { Asked };
 
     ghost view = { λ a. record {
-        next = a.next;
-        written = a.written;
-        drawn = a.drawn;
-        alignments = a.alignments.items;
-        width = a.width;
-        file = option_map string_bytes a.file;
-        separator = a.separator;
-        steps = a.steps.items;
-        tells_faults = a.tells_faults;
-        checks_steps = a.checks_steps;
+      next = a.next;
+      written = a.written;
+      drawn = a.drawn;
+      alignments = a.alignments.items;
+      width = a.width;
+      file = option_map string_bytes a.file;
+      separator = a.separator;
+      steps = a.steps.items;
+      tells_faults = a.tells_faults;
+      checks_steps = a.checks_steps;
     } };
 }
 
