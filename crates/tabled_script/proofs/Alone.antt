@@ -3,7 +3,7 @@ use Rattle.tabled_script.proofs.Common.{[], ◌++◌, ◌≡◌, Appends, Err, F
 use Rattle.std.specs.Prelude.{◌-◌}
 use Rattle.tabled_language.specs.Script.{parse}
 use Rattle.tabled_language.specs.declared.fault.Fault.{Fault}
-use Rattle.tabled_script.specs.Answer.{LeavesUndrawn, ShowsNoTable, fault_line}
+use Rattle.tabled_script.specs.Answer.{ShowsNoPicture, ShowsNoTable, fault_line}
 use Rattle.tabled_script.specs.Asked.{lines_behind, whole_lines}
 use Rattle.tabled_script.specs.declared.form.Form.{Form}
 
@@ -14,11 +14,11 @@ module _ (before behind : List ℕ) (none_before : before ≡ []) (none_behind :
   pub shown_alone : (form how : Form) → form ≡ how → ShowsTable form (whole_lines before input behind) old new → ShowsTable how input old new
   shown_alone form how is shown = subst (λ (it : Form). ShowsTable it input old new) is (subst (λ bytes. ShowsTable form bytes old new) alone shown)
 
-  not_undrawn : (form how : Form) → form ≡ how → (LeavesUndrawn how old new → ⊥) → ShowsNoTable form 0 (whole_lines before input behind) old new → Faults 0 (whole_lines before input behind) old new
-  not_undrawn form how is never (inl undrawn) = absurd (never (subst (λ (it : Form). LeavesUndrawn it old new) is undrawn))
+  not_undrawn : (form how : Form) → form ≡ how → (ShowsNoPicture how input old new → ⊥) → ShowsNoTable form 0 (whole_lines before input behind) old new → Faults 0 (whole_lines before input behind) old new
+  not_undrawn form how is never (inl undrawn) = absurd (never (subst (λ (it : Form). ShowsNoPicture it input old new) is (subst (λ bytes. ShowsNoPicture form bytes old new) alone undrawn)))
   not_undrawn form how is never (inr faults) = faults
 
-  pub faulty_alone : (form how : Form) → form ≡ how → (LeavesUndrawn how old new → ⊥) → ShowsNoTable form 0 (whole_lines before input behind) old new → (fault : ℕ × Fault) × (parse input ≡ Err fault) × Appends old new (fault_line fault)
+  pub faulty_alone : (form how : Form) → form ≡ how → (ShowsNoPicture how input old new → ⊥) → ShowsNoTable form 0 (whole_lines before input behind) old new → (fault : ℕ × Fault) × (parse input ≡ Err fault) × Appends old new (fault_line fault)
   faulty_alone form how is never told =
       let here = subst (λ bytes. Faults 0 bytes old new) alone (not_undrawn form how is never told) in
       let same : here.0.0 - 0 ≡ here.0.0 = omega arith in

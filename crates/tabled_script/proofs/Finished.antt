@@ -28,12 +28,12 @@ told status (Ok (Ok u, n)) old new table none (inr ends) (inr tells) is = (tells
 told status (Ok (Err e, n)) old new table none (inr ends) means is = cc (ends.0)
 told status (Err e) old new table none (inr ends) means is = absurd (omega (arith, ends.0, is))
 
--- what answers a table answers its script
-pub of_script : {U E A : Type 0} (answered : Result (Result U E × ℕ) A) (state undrawn table faults : Type 0) → (state → table) → Answered answered state undrawn → Answered answered table (undrawn ⊎ faults)
-of_script (Ok (Ok u, n)) state undrawn table faults said (inl shows) = inl (shows.0, said shows.1)
-of_script (Ok (Ok u, n)) state undrawn table faults said (inr tells) = inr (tells.0, inl tells.1)
-of_script (Ok (Err e, n)) state undrawn table faults said means = tt
-of_script (Err e) state undrawn table faults said means = tt
+-- what answers a table, or none for want of width, answers its script
+pub of_script : {U E A : Type 0} (answered : Result (Result U E × ℕ) A) (state undrawn table no_picture faults : Type 0) → (state → table) → (undrawn → no_picture) → Answered answered state undrawn → Answered answered table (no_picture ⊎ faults)
+of_script (Ok (Ok u, n)) state undrawn table no_picture faults said not_drawn (inl shows) = inl (shows.0, said shows.1)
+of_script (Ok (Ok u, n)) state undrawn table no_picture faults said not_drawn (inr tells) = inr (tells.0, inl (not_drawn tells.1))
+of_script (Ok (Err e, n)) state undrawn table no_picture faults said not_drawn means = tt
+of_script (Err e) state undrawn table no_picture faults said not_drawn means = tt
 
 -- what says the first fault answers its script
 pub of_fault : {U E : Type 0} (said : Result U E) (how : Form) (n : ℕ) (input : List ℕ) (old new : Option (List ℕ)) (line counted : ℕ) (fault : Fault) → parse input ≡ Err (line, fault) → counted ≡ line - n → OnOk said (Appends old new (fault_line (counted, fault))) → OnOk said (Answers how n input old new faulty)

@@ -4,9 +4,11 @@ pub mod Alone
 pub mod Changes
 pub mod Common
 pub mod Finished
+pub mod Levels
 pub mod LinesBehind
 pub mod Narrowed
 pub mod OutputLines
+pub mod Rooms
 pub mod Sent
 pub mod Texts
 pub mod Told

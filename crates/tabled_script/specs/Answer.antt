@@ -1,5 +1,5 @@
 -- What the program writes for a script.
-use Rattle.std.specs.Prelude.{◌≡◌, ◌⊎◌, ℕ, List, [], ◌∷◌, ◌++◌, ◌-◌, codes, IsOk, MatchResult, Option, Result, Ok, Err}
+use Rattle.std.specs.Prelude.{◌≡◌, ◌⊎◌, ℕ, List, [], ◌∷◌, ◌++◌, ◌-◌, codes, IsOk, MatchResult, None, Option, Result, Ok, Err}
 use Rattle.std.specs.Fmt.{decimal}
 use Rattle.std.specs.Io.KnownBytes.{Appends}
 use Rattle.std.specs.List.{fold}
@@ -12,7 +12,7 @@ use Rattle.tabled_language.specs.Script.{Script, parse, start}
 use Rattle.tabled_language.specs.declared.fault.Fault.{Fault}
 use Rattle.tabled_language.specs.Output.{print}
 use Rattle.tabled_language.specs.RoundTrip.{IsTable}
-use Rattle.tabled_script.specs.Narrow.{IsNarrowPicture}
+use Rattle.tabled_script.specs.Narrow.{IsNarrowPicture, narrowed}
 use Rattle.tabled_script.specs.Status.{DoneOrFaulty, failed, out_of_memory}
 use Rattle.tabled_script.specs.declared.form.Form.{Form}
 use Rattle.tabled_script.specs.declared.form.Form.TheVariants as form
@@ -42,13 +42,13 @@ IsWrittenAs (form.NarrowPicture width style alignments) s bytes = IsNarrowPictur
 IsWrittenAs (form.Markdown alignments) s bytes = bytes ≡ markdown alignments.items s.texts s.spans
 IsWrittenAs (form.Csv separator) s bytes = bytes ≡ csv_of separator s.texts.cells
 
--- nothing was written, since no picture is as narrow as is asked for
-abbrev pub LeavesUndrawn : Form → Option (List ℕ) → Option (List ℕ) → Type 0
-LeavesUndrawn form.Script old new = ⊥
-LeavesUndrawn (form.Picture style alignments) old new = ⊥
-LeavesUndrawn (form.NarrowPicture width style alignments) old new = new ≡ old
-LeavesUndrawn (form.Markdown alignments) old new = ⊥
-LeavesUndrawn (form.Csv separator) old new = ⊥
+-- no picture of a state is as narrow as is asked for, and nothing was written
+abbrev pub LeavesUndrawn : Form → State → Option (List ℕ) → Option (List ℕ) → Type 0
+LeavesUndrawn form.Script s old new = ⊥
+LeavesUndrawn (form.Picture style alignments) s old new = ⊥
+LeavesUndrawn (form.NarrowPicture width style alignments) s old new = (narrowed width style s.spans s.texts ≡ None) × (new ≡ old)
+LeavesUndrawn (form.Markdown alignments) s old new = ⊥
+LeavesUndrawn (form.Csv separator) s old new = ⊥
 
 -- `line N: fault K`
 abbrev pub fault_line : ℕ × Fault → List ℕ
@@ -82,9 +82,13 @@ ShowsTable how input old new = (script : Script) × (parse input ≡ Ok script) 
 abbrev pub Faults : ℕ → List ℕ → Option (List ℕ) → Option (List ℕ) → Type 0
 Faults n input old new = (fault : ℕ × Fault) × (parse input ≡ Err fault) × Appends old new (fault_line (fault.0 - n, fault.1))
 
+-- no picture of the table that a script ends with is as narrow as is asked for, and nothing was written
+abbrev pub ShowsNoPicture : Form → List ℕ → Option (List ℕ) → Option (List ℕ) → Type 0
+ShowsNoPicture how input old new = (script : Script) × (parse input ≡ Ok script) × LeavesUndrawn how (ended script) old new
+
 -- no table was written: nothing for want of width, or the line of a script's first fault
 abbrev pub ShowsNoTable : Form → ℕ → List ℕ → Option (List ℕ) → Option (List ℕ) → Type 0
-ShowsNoTable how n input old new = LeavesUndrawn how old new ⊎ Faults n input old new
+ShowsNoTable how n input old new = ShowsNoPicture how input old new ⊎ Faults n input old new
 
 -- a status says what was written for a script: the table that it ends with, or none
 abbrev pub Answers : Form → ℕ → List ℕ → Option (List ℕ) → Option (List ℕ) → ℕ → Type 0
@@ -92,7 +96,7 @@ Answers how n input old new status = DoneOrFaulty status (ShowsTable how input o
 
 -- a status says what was written for a state: its table, or nothing for want of width
 abbrev pub AnswersState : Form → State → Option (List ℕ) → Option (List ℕ) → ℕ → Type 0
-AnswersState how s old new status = DoneOrFaulty status (ShowsState how s old new) (LeavesUndrawn how old new)
+AnswersState how s old new status = DoneOrFaulty status (ShowsState how s old new) (LeavesUndrawn how s old new)
 
 -- what comes of an answer: writing failed; or its own status, and nothing more is written; or memory ran out, and this was written
 abbrev pub Finishes : {U E A : Type 0} → Result (Result U E × ℕ) A → ℕ → Option (List ℕ) → Option (List ℕ) → Type 0

@@ -2,7 +2,9 @@ pub mod Again
 pub mod Answer
 pub mod Arguments
 pub mod Asked
+pub mod Cuts
 pub mod InMemory
+pub mod Limits
 pub mod Narrow
 pub mod Outcome
 pub mod Refusals

@@ -1,166 +1,150 @@
-//! Which texts of a table are cut, so that its picture is as wide as is asked for.
+//! Texts that are wrapped to the columns that they may have.
 
-use crate::limits::{Asked, limits};
+ghost use Rattle.std.specs.Prelude.{◌≡◌, ◌<◌, ℕ, IfOk, length, map};
+ghost use Rattle.std.specs.String.{string_bytes};
+ghost use Rattle.tabled_draw.specs.Each.{each};
+ghost use Rattle.tabled_draw.specs.MarkdownTexts.{grid_of_texts};
+ghost use Rattle.tabled_grid.specs.Entity.{place};
+ghost use Rattle.tabled_grid.specs.Evenness.{AreWide};
+ghost use Rattle.tabled_grid.specs.Grid.{IsEven, IsInside, grid_of, map_grid, map_items};
+ghost use Rattle.tabled_script.specs.Narrow.{wrapped_at, wrapped_by};
+ghost use Rattle.tabled_script.specs.Cuts.{HasColumns, room_of, wrapped_row, wrapped_rows};
+
 use std::alloc::{AllocError, Global};
-use tabled_draw::{Lines, Style, line_size, pad};
-use tabled_grid::config::{CoverMap, Position, Rectangle, SpannedConfig};
-use tabled_grid::records::{Axis, CellText};
-use tabled_language::LentText;
-use unicode_width::{UnicodeWidthChar, UnicodeWidthStr};
+use tabled_draw::{Lines, room};
+use tabled_grid::config::{Position, SpannedConfig};
+use tabled_grid::records::{Axis, CellText, ExactRecords, PeekableRecords, Records};
+use tabled_width::{widest_piece, widest_word, wrap};
 
-/// A text whose lines are cut to a width.
+/// How many columns each text of a table may have.
 #[derive(Clone, Copy)]
-pub(crate) struct Cut {
-    pub(crate) at: Position,
-    pub(crate) width: usize,
+pub(crate) enum Cut<'a> {
+    /// Those of its widest word.
+    Words,
+    /// Those of its widest piece.
+    Pieces,
+    /// Those of its cell.
+    Cells(Columns<'a>),
 }
 
-/// The texts that are seen and don't fit the columns of a picture of a width: that of a merged cell has the room of its
-/// columns.
-pub(crate) fn cuts(
+/// The columns of a table.
+#[derive(Clone, Copy)]
+pub(crate) struct Columns<'a> {
+    pub(crate) widths: &'a [usize],
+    pub(crate) lines: Lines,
+    pub(crate) spans: &'a SpannedConfig,
+}
+
+/// The texts of a table (`r x c`), each wrapped between words to the columns that it may have: a piece of more columns
+/// stays whole.
+pub(crate) fn wrapped_texts<R>(
     alloc: Global,
-    records: &[Vec<LentText>],
-    spans: &SpannedConfig,
-    style: &Style,
-    width: usize,
-) -> Result<Vec<Cut>, AllocError> {
-    let rows = records.len();
-    let columns = match records.first() {
-        Some(row) => row.len(),
-        None => 0,
-    };
-    let spans = spans.fitting(alloc, rows, columns)?;
-    let covers = CoverMap::new(alloc, &spans, rows, columns)?;
-    let mut asked = vec![in alloc; Asked { line: 0, word: 0 }; columns]?;
-    for i in 0..rows {
-        for j in 0..columns {
-            let at = Position::new(i, j);
-            if !covers.is_hidden(at) && columns_of(&spans, at) == 1 {
-                raise(&mut asked, j, asked_at(records, at));
-            }
-        }
-    }
-    for &Rectangle { first, size } in spans.anchors() {
-        let text = asked_at(records, first);
-        grow(&mut asked, style.columns, first.col, size.width, text);
-    }
-    let limits = limits(alloc, &asked, style.columns, width)?;
-    let mut cuts = Vec::new(alloc);
-    for i in 0..rows {
-        for j in 0..columns {
-            let at = Position::new(i, j);
-            if covers.is_hidden(at) {
-                continue;
-            }
-            let room = room(&limits, style.columns, j, columns_of(&spans, at));
-            if asked_at(records, at).line > room {
-                cuts.push(Cut {
-                    at,
-                    width: room.max(1),
-                })?;
-            }
-        }
-    }
-    Ok(cuts)
+    records: &R,
+    cut: &Cut<'_>,
+) -> Result<Vec<Vec<String>>, AllocError>
+where
+    R: Records + ExactRecords + PeekableRecords,
+    R::Cell: CellText,
+    requires well { R.is_well_formed records.now }
+    requires columns { HasColumns cut.now (R.grid records.now).rows (R.grid records.now).columns }
+    ensures texts { IfOk result (λ texts. grid_of_texts (map_items texts.items) ≡ wrapped_by (room_of cut.now) (map_grid R.Cell.text_of (R.grid records.now))) }
+    ensures even { IfOk result (λ texts. IsEven (grid_of (map_items texts.items))) }
+{
+    let rows = wrapped_rows(alloc, records, cut)?;
+    Ok(rows)
 }
 
-/// How many columns a cell has.
-fn columns_of(spans: &SpannedConfig, at: Position) -> usize {
-    spans.get_column_span(at).unwrap_or(1)
+/// The texts of all rows.
+fn wrapped_rows<R>(
+    alloc: Global,
+    records: &R,
+    cut: &Cut<'_>,
+) -> Result<Vec<Vec<String>>, AllocError>
+where
+    R: Records + ExactRecords + PeekableRecords,
+    R::Cell: CellText,
+    requires well { R.is_well_formed records.now }
+    requires columns { HasColumns cut.now (R.grid records.now).rows (R.grid records.now).columns }
+    ensures wide { IfOk result (λ texts. AreWide (R.grid records.now).columns (map_items texts.items)) }
+    ensures texts { IfOk result (λ texts. map (map string_bytes) (map_items texts.items) ≡ wrapped_rows (room_of cut.now) (map_grid R.Cell.text_of (R.grid records.now))) }
+{
+    let mut texts = Vec::new(alloc);
+    for i in 0..records.count_rows() {
+        texts.push(wrapped_row(alloc, records, cut, i)?)?;
+    }
+    Ok(texts)
 }
 
-/// What the text of a cell asks.
-fn asked_at(records: &[Vec<LentText>], at: Position) -> Asked {
-    let mut asked = Asked { line: 0, word: 0 };
-    let Some(row) = records.get(at.row) else {
-        return asked;
-    };
-    let Some(cell) = row.get(at.col) else {
-        return asked;
-    };
-    for line in cell.text().split('\n') {
-        asked.line = asked.line.max(line.width());
-        for word in line.split(' ') {
-            asked.word = asked.word.max(wide(word));
-        }
+/// The texts of a row.
+fn wrapped_row<R>(
+    alloc: Global,
+    records: &R,
+    cut: &Cut<'_>,
+    i: usize,
+) -> Result<Vec<String>, AllocError>
+where
+    R: Records + ExactRecords + PeekableRecords,
+    R::Cell: CellText,
+    requires well { R.is_well_formed records.now }
+    requires row { i < (R.grid records.now).rows }
+    requires columns { HasColumns cut.now (R.grid records.now).rows (R.grid records.now).columns }
+    ensures long { IfOk result (λ row. length row.items ≡ (R.grid records.now).columns) }
+    ensures texts { IfOk result (λ row. map string_bytes row.items ≡ wrapped_row (room_of cut.now) (map_grid R.Cell.text_of (R.grid records.now)) i) }
+{
+    let mut row = Vec::new(alloc);
+    for j in 0..records.count_columns() {
+        row.push(wrapped_at(alloc, records, cut, Position { row: i, col: j })?)?;
     }
-    asked
+    Ok(row)
 }
 
-/// The columns of a word as `Width::wrap` counts them, character by character.
-fn wide(word: &str) -> usize {
-    let mut columns: usize = 0;
-    for c in word.chars() {
-        columns = columns.saturating_add(c.width().unwrap_or(1));
-    }
-    columns
+/// The text at a place.
+fn wrapped_at<R>(
+    alloc: Global,
+    records: &R,
+    cut: &Cut<'_>,
+    pos: Position,
+) -> Result<String, AllocError>
+where
+    R: Records + ExactRecords + PeekableRecords,
+    R::Cell: CellText,
+    requires well { R.is_well_formed records.now }
+    requires inside { IsInside (R.grid records.now) pos }
+    requires columns { HasColumns cut.now (R.grid records.now).rows (R.grid records.now).columns }
+    ensures { IfOk result (λ text. string_bytes text ≡ wrapped_at (room_of cut.now) (map_grid R.Cell.text_of (R.grid records.now)) pos) }
+{
+    let text = records.get_text(pos);
+    let columns = cut.columns(pos, text)?;
+    wrap(alloc, text, columns.max(1), true)
 }
 
-/// Raises what a column asks to what a text does.
-fn raise(asked: &mut [Asked], j: usize, text: Asked) {
-    if let Some(column) = asked.get_mut(j) {
-        column.line = column.line.max(text.line);
-        column.word = column.word.max(text.word);
-    }
-}
+impl Cut<'_> {
+    ghost use Rattle.std.specs.Prelude.{◌≡◌, ◌<◌, ℕ, IfOk};
+    ghost use Rattle.tabled_script.specs.Cuts.{HasColumns, room_of};
 
-/// Grows what the columns of a merged cell ask by what its text lacks, all alike, and the first one by the rest.
-fn grow(asked: &mut [Asked], lines: Lines, first: usize, columns: usize, text: Asked) {
-    if columns < 2 {
-        return;
-    }
-    let mut have = Asked { line: 0, word: 0 };
-    for k in 0..columns {
-        if let Some(column) = asked.get(first.saturating_add(k)) {
-            have.line = have.line.saturating_add(column.line);
-            have.word = have.word.saturating_add(column.word);
-        }
-    }
-    let between = between(lines, asked.len(), first, columns);
-    let lacks = Asked {
-        line: text.line.saturating_sub(have.line.saturating_add(between)),
-        word: text.word.saturating_sub(have.word.saturating_add(between)),
-    };
-    for k in 0..columns {
-        if let Some(column) = asked.get_mut(first.saturating_add(k)) {
-            column.line = column.line.saturating_add(part(lacks.line, columns, k));
-            column.word = column.word.saturating_add(part(lacks.word, columns, k));
+    /// How many columns the text at a place may have.
+    fn columns(&self, pos: Position, text: &str) -> Result<usize, AllocError>
+        requires { (rows columns : ℕ) × HasColumns self.now rows columns × (pos.row < rows) × (pos.col < columns) }
+        ensures { IfOk result (λ columns. columns ≡ room_of self.now pos text.now) }
+    {
+        match self {
+            Cut::Words => Ok(widest_word(text)),
+            Cut::Pieces => Ok(widest_piece(text)),
+            Cut::Cells(columns) => columns.room(pos),
         }
     }
 }
 
-/// The k-th of n parts of a number: all alike, and the first one with the rest.
-fn part(number: usize, parts: usize, k: usize) -> usize {
-    let (each, rest) = (
-        number.checked_div(parts).unwrap_or(0),
-        number.checked_rem(parts).unwrap_or(0),
-    );
-    if k == 0 {
-        each.saturating_add(rest)
-    } else {
-        each
-    }
-}
+impl Columns<'_> {
+    ghost use Rattle.std.specs.Prelude.{◌≡◌, ◌<◌, ℕ, IfOk};
+    ghost use Rattle.tabled_script.specs.Cuts.{AreColumns, room_in};
 
-/// What stands between the texts of columns that are merged, in a table of so many columns.
-fn between(lines: Lines, count: usize, first: usize, columns: usize) -> usize {
-    let mut taken: usize = 0;
-    for k in 1..columns {
-        let line = line_size(lines, count, first.saturating_add(k));
-        taken = taken
-            .saturating_add(line)
-            .saturating_add(pad(Axis::Columns));
+    /// The room of the text at a place.
+    fn room(&self, pos: Position) -> Result<usize, AllocError>
+        requires { (rows columns : ℕ) × AreColumns self.now rows columns × (pos.row < rows) × (pos.col < columns) }
+        ensures { IfOk result (λ room. room ≡ room_in self.now pos) }
+    {
+        let size = self.spans.size(pos);
+        room(self.widths, Axis::Columns, self.lines, pos.col, size.width)
     }
-    taken
-}
-
-/// The room of the text of a cell, by the widths of its columns.
-fn room(limits: &[usize], lines: Lines, first: usize, columns: usize) -> usize {
-    let mut room = between(lines, limits.len(), first, columns);
-    for k in 0..columns {
-        if let Some(limit) = limits.get(first.saturating_add(k)) {
-            room = room.saturating_add(*limit);
-        }
-    }
-    room
 }

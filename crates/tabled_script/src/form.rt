@@ -7,7 +7,7 @@ ghost use Rattle.tabled_script.specs.InMemory.{state_in};
 ghost use Rattle.tabled_script.specs.Outcome.{IfDrawn, IfUndrawn};
 
 use crate::output::write_script;
-use crate::picture::{write_markdown, write_narrow_picture, write_picture};
+use crate::picture::{TooNarrow, write_markdown, write_narrow_picture, write_picture};
 use crate::values::write_values;
 use std::alloc::{AllocError, Global};
 use std::io::{self, Write};
@@ -37,31 +37,31 @@ pub enum Form {
 
 impl Form {
     /// Writes a table, and flushes the writer. All memory is asked for before the first byte: refused, nothing
-    /// is written. None where no picture is as narrow as is asked for: then nothing is written, too.
+    /// is written. Where no picture is as narrow as is asked for, nothing is written, too.
     pub(crate) fn write<W: Write>(
         &self,
         alloc: Global,
         records: Vec<Vec<LentText>>,
         spans: &SpannedConfig,
         writer: &mut W,
-    ) -> Result<Option<io::Result<()>>, AllocError>
+    ) -> Result<Result<io::Result<()>, TooNarrow>, AllocError>
         requires { IsEven (grid_of (map_items records.items)) }
         ensures written { IfDrawn result (ShowsState self.now (state_in records.entry.items spans.now) (W.contents writer.old) (W.contents writer.new)) }
-        ensures undrawn { IfUndrawn result (LeavesUndrawn self.now (W.contents writer.old) (W.contents writer.new)) }
+        ensures undrawn { IfUndrawn result (λ narrow. LeavesUndrawn self.now (state_in records.entry.items spans.now) (W.contents writer.old) (W.contents writer.new)) }
         ensures refused { OnErr result (W.contents writer.new ≡ W.contents writer.old) }
     {
         match self {
-            Form::Script => Ok(Some(write_script(alloc, records, spans, writer)?)),
-            Form::Picture(style, alignments) => Ok(Some(write_picture(
+            Form::Script => Ok(Ok(write_script(alloc, records, spans, writer)?)),
+            Form::Picture(style, alignments) => Ok(Ok(write_picture(
                 alloc, records, spans, *style, alignments, writer,
             )?)),
             Form::NarrowPicture(width, style, alignments) => {
-                write_narrow_picture(alloc, records, spans, *style, alignments, *width, writer)
+                write_narrow_picture(alloc, &records, spans, *style, alignments, *width, writer)
             }
-            Form::Markdown(alignments) => Ok(Some(write_markdown(
+            Form::Markdown(alignments) => Ok(Ok(write_markdown(
                 alloc, records, spans, alignments, writer,
             )?)),
-            Form::Csv(separator) => { Ok(Some(write_values(alloc, records, *separator, writer)?)) }
+            Form::Csv(separator) => Ok(Ok(write_values(alloc, records, *separator, writer)?)),
         }
     }
 }

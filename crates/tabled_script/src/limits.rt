@@ -1,86 +1,81 @@
-//! How wide the columns of a table may be, so that a picture is as wide as is asked for.
+//! How wide the columns of a table may be, so that its picture has at most so many columns.
+
+ghost use Rattle.std.specs.Prelude.{◌≡◌, IfOk};
+ghost use Rattle.tabled_script.specs.Limits.{larger_of, level, limits, raised_to};
 
 use std::alloc::{AllocError, Global};
-use tabled_draw::{Lines, line_size, pad};
-use tabled_grid::records::Axis;
+use tabled_draw::{Lines, width_of_columns};
 
-/// What the texts of a column, or one text, ask.
-#[derive(Clone, Copy)]
-pub(crate) struct Asked {
-    /// The columns of the widest line.
-    pub(crate) line: usize,
-    /// The columns of the longest word.
-    pub(crate) word: usize,
-}
-
-/// How columns share a width.
-#[derive(Clone, Copy)]
-enum Share {
-    /// Each has its longest word.
-    Words,
-    /// None has more than its longest word.
-    Parts,
-}
-
-/// The width of each column, so that a picture has n columns: the widest ones become equally wide, first down to their
-/// longest words, and then further.
+/// The widths of columns, by those that whole lines, whole words and whole pieces ask: the widest columns are cut first,
+/// and words only where not each has room. Where the pieces have room, this comes to at most `width`.
 pub(crate) fn limits(
     alloc: Global,
-    asked: &[Asked],
-    lines: Lines,
     width: usize,
-) -> Result<Vec<usize>, AllocError> {
-    let room = width.saturating_sub(taken_around(lines, asked.len()));
-    let share = if taken(asked, Share::Words, 0) <= room {
-        Share::Words
+    lines: Lines,
+    of_lines: &[usize],
+    of_words: &[usize],
+    of_pieces: &[usize],
+) -> Result<Vec<usize>, AllocError>
+    ensures { IfOk result (λ widths. widths.items ≡ limits width lines of_lines.now of_words.now of_pieces.now) }
+{
+    let words = larger_of(alloc, of_words, of_pieces)?;
+    let columns = width_of_columns(lines, &words)?;
+    if columns <= width {
+        let level = level(alloc, width, lines, &words, of_lines)?;
+        raised_to(alloc, level, &words, of_lines)
     } else {
-        Share::Parts
-    };
-    let level = level(asked, share, room);
-    let mut limits = Vec::new(alloc);
-    for column in asked {
-        limits.push(shared(*column, share, level))?;
+        let level = level(alloc, width, lines, of_pieces, &words)?;
+        raised_to(alloc, level, of_pieces, &words)
     }
-    Ok(limits)
 }
 
-/// The columns that borders take, and the blanks beside the texts of n columns.
-fn taken_around(lines: Lines, columns: usize) -> usize {
-    let mut taken = columns.saturating_mul(pad(Axis::Columns));
-    for k in 0..columns {
-        taken = taken.saturating_add(line_size(lines, columns, k));
-    }
-    taken.saturating_add(line_size(lines, columns, columns))
-}
-
-/// The highest level, at most a room, at which columns don't take more than that.
-fn level(asked: &[Asked], share: Share, room: usize) -> usize {
+/// The highest level at which columns come to at most a width.
+fn level(
+    alloc: Global,
+    width: usize,
+    lines: Lines,
+    least: &[usize],
+    most: &[usize],
+) -> Result<usize, AllocError>
+    ensures { IfOk result (λ found. found ≡ level width lines least.now most.now) }
+{
     let mut low = 0;
-    let mut high = room;
+    let mut high = width;
     while low < high {
         let middle = high - (high - low) / 2;
-        if taken(asked, share, middle) <= room {
+        let raised = raised_to(alloc, middle, least, most)?;
+        let columns = width_of_columns(lines, &raised)?;
+        if columns <= width {
             low = middle;
         } else {
             high = middle - 1;
         }
     }
-    low
+    Ok(low)
 }
 
-/// What columns take at a level.
-fn taken(asked: &[Asked], share: Share, level: usize) -> usize {
-    let mut taken: usize = 0;
-    for column in asked {
-        taken = taken.saturating_add(shared(*column, share, level));
-    }
-    taken
+/// Columns raised to a level: each is at least its least, and above that at most its most.
+fn raised_to(
+    alloc: Global,
+    level: usize,
+    least: &[usize],
+    most: &[usize],
+) -> Result<Vec<usize>, AllocError>
+    ensures { IfOk result (λ raised. raised.items ≡ raised_to level least.now most.now) }
+{
+    least
+        .iter()
+        .zip(most)
+        .map(|(least, most)| (*least).max((*most).min(level)))
+        .collect(alloc)
 }
 
-/// What a column takes at a level.
-fn shared(column: Asked, share: Share, level: usize) -> usize {
-    match share {
-        Share::Words => column.line.min(level.max(column.word)),
-        Share::Parts => column.word.min(level),
-    }
+/// The larger one of both widths of each column.
+fn larger_of(alloc: Global, xs: &[usize], ys: &[usize]) -> Result<Vec<usize>, AllocError>
+    ensures { IfOk result (λ larger. larger.items ≡ larger_of xs.now ys.now) }
+{
+    xs.iter()
+        .zip(ys)
+        .map(|(x, y)| (*x).max(*y))
+        .collect(alloc)
 }

@@ -1,58 +1,85 @@
-//! Texts wrapped so that their table's picture is no wider than is asked for.
+//! Tables that are drawn in at most so many columns.
 
-ghost use Rattle.std.specs.Prelude.{◌≡◌, IfOk, IsTrue, OnOk};
-ghost use Rattle.tabled_grid.specs.Grid.{IsEven, grid_of, map_items};
-ghost use Rattle.tabled_script.specs.InMemory.{texts_in};
-ghost use Rattle.tabled_script.specs.Narrow.{AreNarrowed, wrapped_each};
+ghost use Rattle.std.specs.Prelude.{◌≡◌, IfOk};
+ghost use Rattle.tabled_draw.specs.MarkdownTexts.{grid_of_texts};
+ghost use Rattle.tabled_grid.specs.Grid.{IsEven, grid_of, map_grid, map_items};
+ghost use Rattle.tabled_script.specs.Narrow.{at_widest_pieces, at_widest_word, cut_to, limits_of, wrapped_by};
+ghost use Rattle.tabled_draw.specs.Width.{column_widths};
 
-use crate::cuts::{Cut, cuts};
+use crate::cuts::{Columns, Cut, wrapped_texts};
+use crate::limits::limits;
 use std::alloc::{AllocError, Global};
-use tabled_draw::{Style, picture_width};
-use tabled_grid::config::{Entity, SpannedConfig};
-use tabled_language::LentText;
-use tabled_options::CellOption;
-use tabled_settings::width::Width;
+use tabled_draw::{Style, column_widths};
+use tabled_grid::config::SpannedConfig;
+use tabled_grid::records::{CellText, ExactRecords, PeekableRecords, Records};
 
-/// Wraps the texts of a table that don't fit, so that its picture has at most n columns, and says whether it has.
-pub(crate) fn narrow(
+/// The texts of a table (`r x c`), each cut to its widest piece.
+pub(crate) fn at_widest_pieces<R>(
     alloc: Global,
-    records: &mut Vec<Vec<LentText>>,
+    records: &R,
+) -> Result<Vec<Vec<String>>, AllocError>
+where
+    R: Records + ExactRecords + PeekableRecords,
+    R::Cell: CellText,
+    requires { R.is_well_formed records.now }
+    ensures texts { IfOk result (λ texts. grid_of_texts (map_items texts.items) ≡ at_widest_pieces (map_grid R.Cell.text_of (R.grid records.now))) }
+    ensures even { IfOk result (λ texts. IsEven (grid_of (map_items texts.items))) }
+{
+    wrapped_texts(alloc, records, &Cut::Pieces)
+}
+
+/// The texts of a table (`r x c`), cut to the widths of its columns for a picture of a width. `pieces` are those texts,
+/// each cut to its widest piece.
+pub(crate) fn cut_to<R>(
+    alloc: Global,
+    records: &R,
+    pieces: &Vec<Vec<String>>,
     spans: &SpannedConfig,
     style: &Style,
     width: usize,
-) -> Result<bool, AllocError>
-    requires { IsEven (grid_of (map_items records.old.items)) }
-    ensures even { IsEven (grid_of (map_items records.new.items)) }
-    ensures narrowed { IfOk result (λ fits. IsTrue fits → AreNarrowed width style.now spans.now (texts_in records.old.items) (texts_in records.new.items)) }
+) -> Result<Vec<Vec<String>>, AllocError>
+where
+    R: Records + ExactRecords + PeekableRecords,
+    R::Cell: CellText,
+    requires well { R.is_well_formed records.now }
+    requires even { IsEven (grid_of (map_items pieces.now.items)) }
+    requires pieces { grid_of_texts (map_items pieces.now.items) ≡ at_widest_pieces (map_grid R.Cell.text_of (R.grid records.now)) }
+    ensures texts { IfOk result (λ texts. grid_of_texts (map_items texts.items) ≡ cut_to width style.now spans.now (map_grid R.Cell.text_of (R.grid records.now))) }
+    ensures even { IfOk result (λ texts. IsEven (grid_of (map_items texts.items))) }
 {
-    let before = picture_width(alloc, records, spans, style)?;
-    if before <= width {
-        return Ok(true);
-    }
-    let cuts = cuts(alloc, records, spans, style, width)?;
-    wrap_each(alloc, records, cuts)?;
-    let after = picture_width(alloc, records, spans, style)?;
-    Ok(after <= width)
+    let of_lines = column_widths(alloc, records, spans, style)?;
+    let of_words = word_widths(alloc, records, spans, style)?;
+    let of_pieces = column_widths(alloc, pieces, spans, style)?;
+    let widths = limits(
+        alloc,
+        width,
+        style.columns,
+        &of_lines,
+        &of_words,
+        &of_pieces,
+    )?;
+    let kept = spans.fitting(alloc, records.count_rows(), records.count_columns())?;
+    let columns = Columns {
+        widths: &widths,
+        lines: style.columns,
+        spans: &kept,
+    };
+    wrapped_texts(alloc, records, &Cut::Cells(columns))
 }
 
-/// Wraps texts, one after another.
-fn wrap_each(
+/// The widths of the columns of a table whose texts are each cut to its widest word.
+fn word_widths<R>(
     alloc: Global,
-    records: &mut Vec<Vec<LentText>>,
-    cuts: Vec<Cut>,
-) -> Result<(), AllocError>
-    requires { IsEven (grid_of (map_items records.old.items)) }
-    ensures even { IsEven (grid_of (map_items records.new.items)) }
-    ensures wrapped { OnOk result (texts_in records.new.items ≡ wrapped_each cuts.items (texts_in records.old.items)) }
+    records: &R,
+    spans: &SpannedConfig,
+    style: &Style,
+) -> Result<Vec<usize>, AllocError>
+where
+    R: Records + ExactRecords + PeekableRecords,
+    R::Cell: CellText,
+    requires { R.is_well_formed records.now }
+    ensures { IfOk result (λ widths. widths.items ≡ column_widths style.now (wrapped_by at_widest_word (map_grid R.Cell.text_of (R.grid records.now))) spans.now) }
 {
-    for cut in cuts {
-        let wrap = Width::wrap(cut.width).keep_words(true);
-        wrap.change(
-            alloc,
-            records,
-            &mut (),
-            Entity::Cell(cut.at.row, cut.at.col),
-        )?;
-    }
-    Ok(())
+    let words = wrapped_texts(alloc, records, &Cut::Words)?;
+    column_widths(alloc, &words, spans, style)
 }

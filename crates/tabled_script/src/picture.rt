@@ -1,15 +1,16 @@
 //! The picture of a table, and a table as Markdown.
 
 ghost use Rattle.std.specs.Io.KnownBytes.{Appends};
-ghost use Rattle.std.specs.Prelude.{◌≡◌, OnErr, OnOk};
+ghost use Rattle.std.specs.Prelude.{◌≡◌, IfOk, None, OnErr, OnOk};
 ghost use Rattle.tabled_draw.specs.Markdown.{markdown};
 ghost use Rattle.tabled_draw.specs.Picture.{drawn_with};
-ghost use Rattle.tabled_grid.specs.Grid.{IsEven, grid_of, map_items};
+ghost use Rattle.tabled_draw.specs.Width.{picture_width};
+ghost use Rattle.tabled_grid.specs.Grid.{IsEven, grid_of, map_grid, map_items};
 ghost use Rattle.tabled_script.specs.InMemory.{texts_in};
-ghost use Rattle.tabled_script.specs.Narrow.{WritesNarrowPicture};
+ghost use Rattle.tabled_script.specs.Narrow.{WritesNarrowPicture, at_widest_pieces, narrowed};
 ghost use Rattle.tabled_script.specs.Outcome.{IfDrawn, IfUndrawn, IfWritten};
 
-use crate::narrow::narrow;
+use crate::narrow::{at_widest_pieces, cut_to};
 use std::alloc::{AllocError, Global};
 use std::io::{self, Write};
 use tabled_draw::laws::lines_take_the_width_of_their_picture;
@@ -38,30 +39,86 @@ pub(crate) fn write_picture<W: Write>(
     Ok(write_drawing(drawing, writer))
 }
 
-/// Writes a picture of at most n columns, between whose words texts are wrapped where that is needed. None where
-/// no picture is that narrow: then nothing is written.
-pub(crate) fn write_narrow_picture<W: Write>(
+/// No picture is as narrow as is asked for.
+#[derive(Clone, Copy)]
+pub(crate) struct TooNarrow {
+    asked: usize,
+    /// The columns of the picture in which texts are cut as far as may be.
+    takes: usize,
+}
+
+impl TooNarrow {
+    /// Tells how many columns a picture takes. Nothing is told where that can't be written, or memory runs out.
+    pub(crate) fn tell<E: Write>(self, alloc: Global, errors: &mut E) {
+        let TooNarrow { asked, takes } = self;
+        if let Ok(line) = format!(in alloc; "no picture of the table is as narrow as {asked} columns: it takes {takes}\n") {
+            // Where it can't be told, the answer is the same.
+            let _ = errors.write_all(line.as_bytes());
+        }
+    }
+}
+
+/// Writes a picture of a table (`r x c`) of at most n columns, in which texts are wrapped where that is needed. Where no
+/// picture is that narrow, nothing is written.
+pub(crate) fn write_narrow_picture<'a, R, W>(
     alloc: Global,
-    mut records: Vec<Vec<LentText>>,
+    records: &'a R,
     spans: &SpannedConfig,
     style: Style,
-    alignments: &[Alignment],
+    alignments: &'a [Alignment],
     width: usize,
     writer: &mut W,
-) -> Result<Option<io::Result<()>>, AllocError>
-    requires { IsEven (grid_of (map_items records.items)) }
+) -> Result<Result<io::Result<()>, TooNarrow>, AllocError>
+where
+    R: Records + ExactRecords + PeekableRecords,
+    R::Cell: CellText,
+    W: Write,
+    requires { R.is_well_formed records.now }
     ensures written { IfDrawn result (
-        WritesNarrowPicture width style alignments.now (texts_in records.entry.items) spans.now (W.contents writer.old) (W.contents writer.new)) }
-    ensures left { IfUndrawn result (W.contents writer.new ≡ W.contents writer.old) }
+        WritesNarrowPicture width style alignments.now (map_grid R.Cell.text_of (R.grid records.now)) spans.now (W.contents writer.old) (W.contents writer.new)) }
+    ensures undrawn { IfUndrawn result (λ narrow. narrowed width style spans.now (map_grid R.Cell.text_of (R.grid records.now)) ≡ None) }
+    ensures takes { IfUndrawn result (λ narrow. narrow.takes ≡ picture_width style (at_widest_pieces (map_grid R.Cell.text_of (R.grid records.now))) spans.now) }
+    ensures left { IfUndrawn result (λ narrow. W.contents writer.new ≡ W.contents writer.old) }
     ensures refused { OnErr result (W.contents writer.new ≡ W.contents writer.old) }
 {
-    let fits = narrow(alloc, &mut records, spans, &style, width)?;
-    if !fits {
-        return Ok(None);
-    }
     lines_take_the_width_of_their_picture();
-    let written = write_picture(alloc, records, spans, style, alignments, writer)?;
-    Ok(Some(written))
+    let (whole, columns) = laid_out(alloc, records, spans, style, alignments)?;
+    if columns <= width {
+        return Ok(Ok(write_drawing(whole, writer)));
+    }
+    let pieces = at_widest_pieces(alloc, records)?;
+    let (least, takes) = laid_out(alloc, &pieces, spans, style, alignments)?;
+    if width < takes {
+        return Ok(Err(TooNarrow {
+            asked: width,
+            takes,
+        }));
+    }
+    let cut = cut_to(alloc, records, &pieces, spans, &style, width)?;
+    let (drawing, columns) = laid_out(alloc, &cut, spans, style, alignments)?;
+    if columns <= width {
+        return Ok(Ok(write_drawing(drawing, writer)));
+    }
+    Ok(Ok(write_drawing(least, writer)))
+}
+
+/// The picture of a table (`r x c`), laid out, and the columns that each of its lines takes.
+fn laid_out<'a, R>(
+    alloc: Global,
+    records: &'a R,
+    spans: &SpannedConfig,
+    style: Style,
+    alignments: &'a [Alignment],
+) -> Result<(Drawing<'a, R>, usize), AllocError>
+where
+    R: Records + ExactRecords + PeekableRecords,
+    R::Cell: CellText,
+    requires { R.is_well_formed records.now }
+    ensures drawn { IfOk result (λ both. both.0 ≡ drawn_with style alignments.now (map_grid R.Cell.text_of (R.grid records.now)) spans.now) }
+    ensures width { IfOk result (λ both. both.1 ≡ picture_width style (map_grid R.Cell.text_of (R.grid records.now)) spans.now) }
+{
+    let look = Look::new(style).align(alignments);
+    Drawing::with_width(alloc, records, spans, &look)
 }
 
 /// Writes a table as Markdown, and flushes the writer. All memory is asked for before the first byte: refused, nothing

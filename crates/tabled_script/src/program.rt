@@ -3,7 +3,7 @@
 ghost use Rattle.std.specs.Prelude.{◌≡◌, ◌-◌, ◌⊎◌, ℕ, Ok, Err, IfSome, List, length};
 ghost use Rattle.std.specs.Io.KnownBytes.{Appends};
 ghost use Rattle.tabled_script.specs.Again.{FitsAtEnd, GivesAgain};
-ghost use Rattle.tabled_script.specs.Answer.{LeavesUndrawn, ShowsState, ended, fault_line, memory_line, output_of, picture_of};
+ghost use Rattle.tabled_script.specs.Answer.{ShowsNoPicture, ShowsState, ended, fault_line, memory_line, output_of, picture_of};
 ghost use Rattle.tabled_script.specs.Asked.{FileFaults, StandBefore, whole_script};
 ghost use Rattle.tabled_script.specs.Status.{IsStatus, done, faulty, out_of_memory};
 ghost use Rattle.tabled_language.specs.Script.{Script as Meaning, parse};
@@ -104,9 +104,9 @@ pub fn answer<R: Read, W: Write, E: Write>(
         × (script : Meaning) × (parse (whole_script rows input request.now.steps.items) ≡ Ok script)
         × ShowsState request.now.form (ended script) (W.contents writer.old) (W.contents writer.new)) }
     ensures faulty { result ≡ faulty → FileFaults request.now.file (W.contents writer.old) (W.contents writer.new) ⊎ IfSome (R.remaining reader.old) (λ input.
-        LeavesUndrawn request.now.form (W.contents writer.old) (W.contents writer.new) ⊎ ((rows : List (List (List ℕ))) × StandBefore request.now.file rows
-        × (fault : ℕ × Fault) × (parse (whole_script rows input request.now.steps.items) ≡ Err fault)
-        × Appends (W.contents writer.old) (W.contents writer.new) (fault_line (fault.0 - length rows, fault.1)))) }
+        (rows : List (List (List ℕ))) × StandBefore request.now.file rows
+        × (ShowsNoPicture request.now.form (whole_script rows input request.now.steps.items) (W.contents writer.old) (W.contents writer.new) ⊎ ((fault : ℕ × Fault) × (parse (whole_script rows input request.now.steps.items) ≡ Err fault)
+        × Appends (W.contents writer.old) (W.contents writer.new) (fault_line (fault.0 - length rows, fault.1))))) }
     ensures memory { result ≡ out_of_memory → Appends (W.contents writer.old) (W.contents writer.new) memory_line }
 {
     match lines_of(alloc, &request.file) {

@@ -36,9 +36,6 @@ pub(crate) const FAILED: u8 = 4;
 /// The line that is written where memory ran out.
 const MEMORY_LINE: &[u8] = b"out of memory\n";
 
-/// The line that is told where no picture is as narrow as is asked for.
-const WIDTH_LINE: &[u8] = b"no picture of the table is that narrow\n";
-
 /// Runs the script that a reader has, behind some lines and before those of a request, writes the table that it ends
 /// with in the form that is asked for, and answers a status. Lines are counted without those before.
 pub(crate) fn respond<R: Read, W: Write, E: Write>(
@@ -127,10 +124,9 @@ fn show<W: Write, E: Write>(
         errors,
     )?;
     match request.form.write(alloc, records, &spans, writer)? {
-        Some(written) => Ok((written, DONE)),
-        None => {
-            // The status says it, too.
-            let _ = errors.write_all(WIDTH_LINE);
+        Ok(written) => Ok((written, DONE)),
+        Err(narrow) => {
+            narrow.tell(alloc, errors);
             Ok((Ok(()), FAULTY))
         }
     }

@@ -16,4 +16,4 @@ returns-clause-done g c = λ is_done. IfSome_then (g.R.Read.remaining c.args.rea
 
 pub returns-clause-faulty : goal.returns-clause-faulty
 returns-clause-faulty g c = λ is_faulty. IfSome_then (g.R.Read.remaining c.args.reader.now) (c.respond.ensures.faulty is_faulty)
-    (λ input told. faulty_alone c.new-3.result.items c.new-2.result.steps.items c.new-3.ensures.items c.new-2.ensures.steps input (g.W.Write.contents c.args.writer.now) (g.W.Write.contents c.respond.new.writer) c.new-2.result.form (form.Picture c.ascii.result c.new.result) c.new-2.ensures.form (λ none. none) told)
+    (λ input told. faulty_alone c.new-3.result.items c.new-2.result.steps.items c.new-3.ensures.items c.new-2.ensures.steps input (g.W.Write.contents c.args.writer.now) (g.W.Write.contents c.respond.new.writer) c.new-2.result.form (form.Picture c.ascii.result c.new.result) c.new-2.ensures.form (λ none. none.2) told)

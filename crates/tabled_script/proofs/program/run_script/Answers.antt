@@ -19,4 +19,4 @@ returns-clause-again g c = λ is_done. IfSome_then (g.R.Read.remaining c.args.re
 
 pub returns-clause-faulty : goal.returns-clause-faulty
 returns-clause-faulty g c = λ is_faulty. IfSome_then (g.R.Read.remaining c.args.reader.now) (c.respond.ensures.faulty is_faulty)
-    (λ input told. faulty_alone c.new-2.result.items c.new.result.steps.items c.new-2.ensures.items c.new.ensures.steps input (g.W.Write.contents c.args.writer.now) (g.W.Write.contents c.respond.new.writer) c.new.result.form form.Script c.new.ensures.form (λ none. none) told)
+    (λ input told. faulty_alone c.new-2.result.items c.new.result.steps.items c.new-2.ensures.items c.new.ensures.steps input (g.W.Write.contents c.args.writer.now) (g.W.Write.contents c.respond.new.writer) c.new.result.form form.Script c.new.ensures.form (λ none. none.2) told)

@@ -1,11 +1,14 @@
-use Rattle.tabled_script.proofs.Common.{script_in}
+use Rattle.tabled_language.specs.Script.{parse}
+use Rattle.tabled_script.proofs.Common.{◌≡◌, Ok, script_in}
 use Rattle.tabled_script.proofs.Finished.{of_fault, of_script}
 use Rattle.tabled_script.proofs.respond.reply.Goals as goal
 
 pub returns-in-Ok-clause-answered : goal.returns-in-Ok-clause-answered
 returns-in-Ok-clause-answered g c =
     let s = c.in-Ok.script in
-    of_script c.show.result _ _ _ _ (λ shown. (script_in s.records.items s.spans s.steps.items, rw c.in-Ok.is at c.parse.ensures.script, shown)) c.show.ensures.shown
+    let script = script_in s.records.items s.spans s.steps.items in
+    let read : parse c.args.source.bytes.now ≡ Ok script = rw c.in-Ok.is at c.parse.ensures.script in
+    of_script c.show.result _ _ _ _ _ (λ shown. (script, read, shown)) (λ undrawn. (script, read, undrawn)) c.show.ensures.shown
 
 pub returns-then-request-clause-answered : goal.returns-then-request-clause-answered
 returns-then-request-clause-answered g c =
