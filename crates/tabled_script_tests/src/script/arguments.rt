@@ -87,7 +87,7 @@ fn arguments_ask_for_steps_and_forms(rt: HostRuntime) -> Result<(), Fail> {
             "",
             2,
             "",
-            "no picture of the table is that narrow\n",
+            "no picture of the table is as narrow as 8 columns: it takes 9\n",
         ),
         // A merged cell has the room of its columns, and a text that it hides counts for nothing.
         (
