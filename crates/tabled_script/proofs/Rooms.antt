@@ -1,14 +1,14 @@
 -- Where merged cells lie in a table.
 use Rattle.std.proofs.lemmas.Slice.Zip.{length-zip}
 use Rattle.std.specs.List.{zip}
-use Rattle.tabled_draw.proofs.Common.{[], ◌+◌, ◌<◌, ◌∙◌, ◌∷◌, ◌≡◌, ◌≤◌, Columns, Fits, Grid, List, None, Option, Position, Size, Some, SpanMap, ap, ap₂, arith, cond_both, fitting, get, keep_fitting, length, length-map, map, place, rectangles, refl, size_at, ℕ}
+use Rattle.tabled_draw.proofs.Common.{[], ◌+◌, ◌<◌, ◌∙◌, ◌∷◌, ◌≡◌, ◌≤◌, Columns, Fits, Grid, List, None, Option, Position, Size, Some, SpanMap, ap, ap₂, arith, cond_both, fitting, get, keep_fitting, length, length-map, map, place, rectangles, refl, size_at, subst, sym, ℕ}
 use Rattle.tabled_draw.proofs.Each.{all-each, length-singles}
 use Rattle.tabled_draw.proofs.Sizes.{length-sizes}
 use Rattle.tabled_draw.specs.Width.{column_widths}
 use Rattle.tabled_draw.specs.declared.style.Lines.{Lines}
 use Rattle.tabled_draw.specs.declared.style.Style.{Style}
 use Rattle.tabled_grid.specs.Evenness.{AreWide}
-use Rattle.tabled_grid.specs.Grid.{width_of}
+use Rattle.tabled_grid.specs.Grid.{IsEven, grid_of, map_grid, width_of}
 use Rattle.tabled_script.specs.Cuts.{wrapped_row, wrapped_rows}
 use Rattle.tabled_script.specs.Limits.{come_to, larger_of, levelled, limits}
 use Rattle.tabled_script.specs.Narrow.{Room, at_widest_piece, at_widest_pieces, at_widest_word, cut_to, in_columns, limits_of, wrapped_at, wrapped_by}
@@ -17,11 +17,21 @@ use Rattle.tabled_script.specs.Narrow.{Room, at_widest_piece, at_widest_pieces, 
 pub ends-inside : (m : SpanMap) (rows columns : ℕ) → Fits m rows columns → (p : Position) → p.col < columns → p.col + (size_at m p).width ≤ columns
 ends-inside m rows columns fits p inside = cases (get m p) refl
   where
-
-
     cases : (found : Option Size) → get m p ≡ found → p.col + (size_at m p).width ≤ columns
     cases None is = rw is (omega arith)
     cases (Some size) is = rw is (fits.inside p size is).1
+
+-- ---- tables by their rows
+
+-- the grid of the texts of rows
+pub grid-is : {A : Type 0} (f : A → List ℕ) (rows : List (List A)) → map_grid f (grid_of rows) ≡ grid_of (map (map f) rows)
+grid-is f [] = refl
+grid-is f (row ∷ rows) = ap₂ (λ r c. record { rows = r; columns = c; cells = map (map f) (row ∷ rows) }) (sym (length-map (row ∷ rows) (map f))) (sym (length-map row f))
+
+-- rows of n cells each are the rows of a grid
+pub even-wide : {A : Type 0} (n : ℕ) (rows : List (List A)) → AreWide n rows → IsEven (grid_of rows)
+even-wide n [] wide = record { tall = refl; wide = tt }
+even-wide n (row ∷ rows) wide = record { tall = refl; wide = subst (λ k. AreWide k (row ∷ rows)) (sym wide.0) wide }
 
 -- ---- how many columns a table has whose texts are wrapped
 

@@ -1,6 +1,7 @@
 -- What the code's values say of a table and of a script.
-use Rattle.std.specs.Prelude.{ℕ, List}
-use Rattle.std.specs.Global.{Vec}
+use Rattle.std.specs.Prelude.{ℕ, List, String}
+use Rattle.std.specs.Global.{Global, Vec}
+use Rattle.std.specs.String.{string_bytes}
 use Rattle.tabled_grid.specs.Grid.{Grid, grid_of, map_grid, map_items}
 use Rattle.tabled_grid.specs.Spans.{SpanMap}
 use Rattle.tabled_language.specs.Lent.{bytes_of}
@@ -13,6 +14,10 @@ use Rattle.tabled_steps.specs.States.{State, state_of}
 -- the texts of records
 abbrev pub texts_in : List (Vec LentText) → Grid (List ℕ)
 texts_in records = map_grid bytes_of (grid_of (map_items records))
+
+-- the table of the bytes of texts, row by row
+abbrev pub grid_of_texts : List (List (String Global)) → Grid (List ℕ)
+grid_of_texts rows = map_grid string_bytes (grid_of rows)
 
 -- the state of records and merged cells
 abbrev pub state_in : List (Vec LentText) → SpanMap → State

@@ -3,7 +3,7 @@
 ghost use Rattle.std.specs.Prelude.{◌≡◌, ◌<◌, ℕ, IfOk, length, map};
 ghost use Rattle.std.specs.String.{string_bytes};
 ghost use Rattle.tabled_draw.specs.Each.{each};
-ghost use Rattle.tabled_draw.specs.MarkdownTexts.{grid_of_texts};
+ghost use Rattle.tabled_script.specs.InMemory.{grid_of_texts};
 ghost use Rattle.tabled_grid.specs.Entity.{place};
 ghost use Rattle.tabled_grid.specs.Evenness.{AreWide};
 ghost use Rattle.tabled_grid.specs.Grid.{IsEven, IsInside, grid_of, map_grid, map_items};

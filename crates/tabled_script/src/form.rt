@@ -27,7 +27,7 @@ pub enum Form {
     /// alignment counts for all columns behind it, and without one they stand to the left.
     Picture(Style, Vec<Alignment>),
     /// A picture of at most n columns: where that is needed, the lines of texts are cut between words, those of the widest
-    /// columns first, and where no word is short enough, in words.
+    /// columns first, and where words have no room, in words, but never below the widest piece of a text.
     NarrowPicture(usize, Style, Vec<Alignment>),
     /// Markdown, in which each row takes one line: texts are escaped, and of merged cells the first has the text.
     Markdown(Vec<Alignment>),

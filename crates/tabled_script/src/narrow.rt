@@ -1,7 +1,7 @@
 //! Tables that are drawn in at most so many columns.
 
 ghost use Rattle.std.specs.Prelude.{◌≡◌, IfOk};
-ghost use Rattle.tabled_draw.specs.MarkdownTexts.{grid_of_texts};
+ghost use Rattle.tabled_script.specs.InMemory.{grid_of_texts};
 ghost use Rattle.tabled_grid.specs.Grid.{IsEven, grid_of, map_grid, map_items};
 ghost use Rattle.tabled_script.specs.Narrow.{at_widest_pieces, at_widest_word, cut_to, limits_of, wrapped_by};
 ghost use Rattle.tabled_draw.specs.Width.{column_widths};

@@ -1,7 +1,7 @@
 use Rattle.std.proofs.lemmas.Result.{IfOk-weaker}
 use Rattle.std.specs.String.{string_bytes}
 use Rattle.tabled_draw.proofs.Common.{◌∙◌, ap}
-use Rattle.tabled_draw.proofs.Singly.{even-wide, grid-is}
+use Rattle.tabled_script.proofs.Rooms.{even-wide, grid-is}
 use Rattle.tabled_grid.specs.Grid.{grid_of, map_items}
 use Rattle.tabled_script.specs.Narrow.{wrapped_by}
 use Rattle.tabled_script.proofs.cuts.wrapped_texts.Goals as goal

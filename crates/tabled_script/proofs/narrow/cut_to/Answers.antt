@@ -2,7 +2,7 @@ use Rattle.std.proofs.lemmas.Result.{IfOk-weaker}
 use Rattle.tabled_draw.proofs.Common.{◌∙◌, ◌≡◌, ap, length, map_grid}
 use Rattle.tabled_draw.proofs.Fitting.{fits-of}
 use Rattle.tabled_grid.specs.Grid.{map_items}
-use Rattle.tabled_draw.specs.MarkdownTexts.{grid_of_texts}
+use Rattle.tabled_script.specs.InMemory.{grid_of_texts}
 use Rattle.tabled_script.proofs.Rooms.{cut-is, length-limits-of, limits-are}
 use Rattle.tabled_script.specs.Narrow.{limits_of}
 use Rattle.tabled_script.proofs.narrow.cut_to.Goals as goal
