@@ -74,8 +74,5 @@ fn raised_to(
 fn larger_of(alloc: Global, xs: &[usize], ys: &[usize]) -> Result<Vec<usize>, AllocError>
     ensures { IfOk result (λ larger. larger.items ≡ larger_of xs.now ys.now) }
 {
-    xs.iter()
-        .zip(ys)
-        .map(|(x, y)| (*x).max(*y))
-        .collect(alloc)
+    xs.iter().zip(ys).map(|(x, y)| (*x).max(*y)).collect(alloc)
 }

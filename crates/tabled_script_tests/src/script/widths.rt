@@ -36,7 +36,10 @@ fn a_table_is_drawn_in_each_width_from_one_on(rt: HostRuntime) -> Result<(), Fai
         ("row\t👨‍👩‍👧‍👦👍🏽🇩🇪\n", 6),
         // Merged cells.
         ("row\tabcdefgh\t\nrow\tx y\t\nspan\t0\t0\t1\t2\n", 8),
-        ("row\t\taaa bbb ccc\t\nrow\taaaaaaaa\t\t\nspan\t0\t1\t1\t2\nspan\t1\t0\t1\t2\n", 10),
+        (
+            "row\t\taaa bbb ccc\t\nrow\taaaaaaaa\t\t\nspan\t0\t1\t1\t2\nspan\t1\t0\t1\t2\n",
+            10,
+        ),
     ] {
         for width in 0..40 {
             let (status, is_narrow) = draw_in(alloc, script, width)?;

@@ -21,15 +21,15 @@ loop-low-preserved c =
     let columns : c.in_ok-columns.columns ≡ width_of_columns c.args.lines (raised_to middle least most) = c.in_ok-columns.ensures.width ∙ ap (width_of_columns c.args.lines) (c.deref.ensures.value ∙ c.in_ok-raised.ensures) in
     elim c.if-columns-width.branch [
       | then-columns-width w ↦ record {
-          order = omega arith;
-          within = omega arith;
-          low = rw w.low-is (inr (le-leb _ _ (rw columns at w.if-columns-width.true)));
-          above = rw w.high-is was.above;
-        }
+        order = omega arith;
+        within = omega arith;
+        low = rw w.low-is (inr (le-leb _ _ (rw columns at w.if-columns-width.true)));
+        above = rw w.high-is was.above;
+      }
       | else-columns-width w ↦ record {
-          order = omega arith;
-          within = omega arith;
-          low = rw w.low-is was.low;
-          above = λ j more less. too-wide-above c.args.width c.args.lines middle j (omega (arith, more, w.high-is)) least most (rw columns at w.if-columns-width.false);
-        }
+        order = omega arith;
+        within = omega arith;
+        low = rw w.low-is was.low;
+        above = λ j more less. too-wide-above c.args.width c.args.lines middle j (omega (arith, more, w.high-is)) least most (rw columns at w.if-columns-width.false);
+      }
     ]

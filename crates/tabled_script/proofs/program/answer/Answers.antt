@@ -16,12 +16,15 @@ returns-in-Ok-clause-faulty g c = λ is_faulty.
     let lines = c.in-Ok.ensures.lines in
     inr (IfSome_then (g.R.Read.remaining c.args.reader.now) (c.respond.ensures.faulty is_faulty)
     (λ input told.
-    let same = λ (bytes : List ℕ). whole_lines bytes input c.args.request.now.steps.items in
-    (lines.0, lines.1, elim told [
-      | inl undrawn ↦ inl (undrawn.0, ap (λ (bytes : List ℕ). parse (same bytes)) (sym lines.2) ∙ undrawn.1, undrawn.2)
-      | inr fault ↦ inr (
-        fault.0,
-        ap (λ (bytes : List ℕ). parse (same bytes)) (sym lines.2) ∙ fault.1,
-        subst (λ n. Appends (g.W.Write.contents c.args.writer.now) (g.W.Write.contents c.respond.new.writer) (fault_line (fault.0.0 - n, fault.0.1))) lines.3 fault.2,
-      )
-    ])))
+    let same = λ (bytes : List ℕ). whole_lines bytes input c.args.request.now.steps.items in (
+      lines.0,
+      lines.1,
+      elim told [
+        | inl undrawn ↦ inl (undrawn.0, ap (λ (bytes : List ℕ). parse (same bytes)) (sym lines.2) ∙ undrawn.1, undrawn.2)
+        | inr fault ↦ inr (
+          fault.0,
+          ap (λ (bytes : List ℕ). parse (same bytes)) (sym lines.2) ∙ fault.1,
+          subst (λ n. Appends (g.W.Write.contents c.args.writer.now) (g.W.Write.contents c.respond.new.writer) (fault_line (fault.0.0 - n, fault.0.1))) lines.3 fault.2,
+        )
+      ],
+    )))
