@@ -1,6 +1,6 @@
 -- The highest level at which columns come to a width.
 use Rattle.std.specs.Prelude.{nat_le}
-use Rattle.tabled_draw.proofs.Common.{[], ◌+◌, ◌<◌, ◌∙◌, ◌∷◌, ◌≡◌, ◌≤◌, ◌⊎◌, Bool, Columns, List, ap, ap₂, arith, cases_lt, cond-false, cond-true, false, get_or, inl, inr, le-leb, length, line_size, nat_tests, refl, start_of, suc, sym, true, zero, ℕ}
+use Rattle.tabled_draw.proofs.Common.{[], ◌<◌, ◌∙◌, ◌∷◌, ◌≡◌, ◌≤◌, ◌⊎◌, Bool, Columns, List, ap, ap₂, arith, cases_lt, cond-false, cond-true, false, get_or, inl, inr, le-leb, length, line_size, nat_tests, refl, start_of, suc, sym, true, zero, ℕ}
 use Rattle.tabled_draw.proofs.Shares.{Larger}
 use Rattle.tabled_draw.specs.Width.{width_of_columns}
 use Rattle.tabled_draw.specs.declared.style.Lines.{Lines}

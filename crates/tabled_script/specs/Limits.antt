@@ -1,5 +1,5 @@
 -- The widths that columns are cut to.
-use Rattle.std.specs.Prelude.{◌≡◌, ℕ, zero, suc, Bool, List, if◌then◌else◌, map, max, min, nat_le}
+use Rattle.std.specs.Prelude.{ℕ, zero, suc, Bool, List, if◌then◌else◌, map, max, min, nat_le}
 use Rattle.std.specs.List.{zip}
 use Rattle.tabled_draw.specs.Width.{width_of_columns}
 use Rattle.tabled_draw.specs.declared.style.Lines.{Lines}

@@ -1,4 +1,3 @@
-use Rattle.std.proofs.lemmas.Result.{IfOk-weaker}
 use Rattle.std.specs.String.{string_bytes}
 use Rattle.tabled_draw.proofs.Common.{◌∙◌, ap}
 use Rattle.tabled_script.proofs.Rooms.{even-wide, grid-is}

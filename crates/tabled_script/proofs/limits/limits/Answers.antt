@@ -1,5 +1,5 @@
 use Rattle.std.proofs.lemmas.Result.{IfOk-weaker}
-use Rattle.tabled_draw.proofs.Common.{◌∙◌, ap, sym}
+use Rattle.tabled_draw.proofs.Common.{◌∙◌, ap}
 use Rattle.tabled_draw.specs.Width.{width_of_columns}
 use Rattle.tabled_script.proofs.Levels.{limits-pieces, limits-words}
 use Rattle.tabled_script.proofs.limits.limits.Goals as goal
