@@ -16,4 +16,5 @@ pub mod settings;
 mod spelling;
 pub mod steps;
 pub mod stores;
+pub mod widths;
 pub mod writers;
