@@ -39,9 +39,9 @@ PicksNamed entity answers g picked = Filters (λ p. answers (text_at g p)) (insi
 abbrev pub PicksPlaces : (List ℕ → Bool → Type 0) → Grid (List ℕ) → List Position → Type 0
 PicksPlaces = PicksNamed Global
 
--- these are kept of the places of such a list, one of each
-abbrev pub KeptOf : {K : Type 0} → (Position → K) → (List Position → Type 0) → List K → Type 0
-KeptOf kept such items = (places : List Position) × such places × (items ≡ map kept places)
+-- these are told of the places of such a list, one of each
+abbrev pub ToldOf : {K : Type 0} → (Position → K) → (List Position → Type 0) → List K → Type 0
+ToldOf told such items = (places : List Position) × such places × (items ≡ map told places)
 
 -- one place is held, and then the next one, if the answer to its text and to the held one was yes
 abbrev pub HoldsNext : (List ℕ → List ℕ → Bool → Type 0) → Grid (List ℕ) → Position → Position → Position → Type 0

@@ -8,7 +8,7 @@ ghost use Rattle.tabled_grid.specs.declared.config.position.Position.{Position};
 ghost use Rattle.tabled_select.specs.Algebra.{cells_of};
 ghost use Rattle.tabled_select.specs.Locators.{NamedHeldLast};
 
-use crate::object::{EntityOnce, Object, Places, entities};
+use crate::object::{EntityOnce, Object, NamedPlaces, entities};
 use std::alloc::{AllocError, Global};
 use std::marker::Model;
 use tabled_grid::config::{Entity, Position};
@@ -80,7 +80,7 @@ where
     requires can { F.IsAlwaysCallable takes.now }
     ensures { NamedHeldLast (FnReturnsAtPair F.Fn takes.now) (map_grid R.Cell.text_of (R.grid records.now)) entities.items (option_to_list result) }
 {
-    let mut rest = Places::new(entities, records.count_rows(), records.count_columns());
+    let mut rest = NamedPlaces::new(entities, records.count_rows(), records.count_columns());
     let mut held = rest.next()?;
     for pos in rest {
         if takes(records.get_text(pos), records.get_text(held)) {

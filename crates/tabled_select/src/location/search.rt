@@ -5,32 +5,32 @@ ghost use Rattle.std.specs.Fn.{FnReturnsAt};
 ghost use Rattle.tabled_grid.specs.Grid.{map_grid};
 ghost use Rattle.tabled_grid.specs.declared.config.position.Position.{Position};
 ghost use Rattle.tabled_grid.specs.declared.config.entity.Entity.TheVariants.{Cell, Column};
-ghost use Rattle.tabled_select.specs.Locators.{KeptOf, PicksNamed, named_with};
+ghost use Rattle.tabled_select.specs.Locators.{ToldOf, PicksNamed, named_with};
 
 use std::alloc::{AllocError, Global};
 use tabled_grid::config::{Entity, Position};
 use tabled_grid::records::{CellText, ExactRecords, PeekableRecords, Records};
 
-/// What is kept of a place that was found.
-pub(super) trait Keep {
-    type Kept: Drop;
+/// What is told of a place that was found.
+pub(super) trait Tell {
+    type Told: Drop;
 
-    /// What is kept of a place.
-    ghost kept: { Position → Self.Kept };
+    /// What is told of a place.
+    ghost told: { Position → Self.Told };
 
-    fn keep(pos: Position) -> Self::Kept
-        ensures { result ≡ kept pos };
+    fn tell(pos: Position) -> Self::Told
+        ensures { result ≡ told pos };
 }
 
 /// Places themselves.
 pub(super) enum Places {}
 
-impl Keep for Places {
-    type Kept = Position;
+impl Tell for Places {
+    type Told = Position;
 
-    ghost kept = { λ p. p };
+    ghost told = { λ p. p };
 
-    fn keep(pos: Position) -> Position {
+    fn tell(pos: Position) -> Position {
         pos
     }
 }
@@ -38,12 +38,12 @@ impl Keep for Places {
 /// The entities of places.
 pub(super) enum Cells {}
 
-impl Keep for Cells {
-    type Kept = Entity;
+impl Tell for Cells {
+    type Told = Entity;
 
-    ghost kept = { λ p. Cell p.row p.col };
+    ghost told = { λ p. Cell p.row p.col };
 
-    fn keep(pos: Position) -> Entity {
+    fn tell(pos: Position) -> Entity {
         Entity::from(pos)
     }
 }
@@ -51,12 +51,12 @@ impl Keep for Cells {
 /// The indexes of the columns of places.
 pub(super) enum ColumnIndexes {}
 
-impl Keep for ColumnIndexes {
-    type Kept = usize;
+impl Tell for ColumnIndexes {
+    type Told = usize;
 
-    ghost kept = { λ p. p.col };
+    ghost told = { λ p. p.col };
 
-    fn keep(pos: Position) -> usize {
+    fn tell(pos: Position) -> usize {
         pos.col
     }
 }
@@ -64,12 +64,12 @@ impl Keep for ColumnIndexes {
 /// The entities of the columns of places.
 pub(super) enum WholeColumns {}
 
-impl Keep for WholeColumns {
-    type Kept = Entity;
+impl Tell for WholeColumns {
+    type Told = Entity;
 
-    ghost kept = { λ p. Column p.col };
+    ghost told = { λ p. Column p.col };
 
-    fn keep(pos: Position) -> Entity {
+    fn tell(pos: Position) -> Entity {
         Entity::Column(pos.col)
     }
 }
@@ -80,13 +80,13 @@ pub(super) fn search_text<K, R>(
     records: &R,
     entity: Entity,
     wanted: &str,
-) -> Result<Vec<K::Kept>, AllocError>
+) -> Result<Vec<K::Told>, AllocError>
 where
-    K: Keep,
+    K: Tell,
     R: Records + ExactRecords + PeekableRecords,
     R::Cell: CellText,
     requires well { R.is_well_formed records.now }
-    ensures { IfOk result (λ all. all.items ≡ map K.kept (named_with entity wanted.now (map_grid R.Cell.text_of (R.grid records.now)))) }
+    ensures { IfOk result (λ all. all.items ≡ map K.told (named_with entity wanted.now (map_grid R.Cell.text_of (R.grid records.now)))) }
 {
     search::<K, R, _>(alloc, records, entity, &|text: &str| text == wanted)
 }
@@ -98,20 +98,20 @@ pub(super) fn search<K, R, F>(
     records: &R,
     entity: Entity,
     says: &F,
-) -> Result<Vec<K::Kept>, AllocError>
+) -> Result<Vec<K::Told>, AllocError>
 where
-    K: Keep,
+    K: Tell,
     R: Records + ExactRecords + PeekableRecords,
     R::Cell: CellText,
     F: Fn(&str) -> bool,
     requires well { R.is_well_formed records.now }
     requires can { F.IsAlwaysCallable says.now }
-    ensures { IfOk result (λ all. KeptOf K.kept (PicksNamed entity (FnReturnsAt F.Fn says.now) (map_grid R.Cell.text_of (R.grid records.now))) all.items) }
+    ensures { IfOk result (λ all. ToldOf K.told (PicksNamed entity (FnReturnsAt F.Fn says.now) (map_grid R.Cell.text_of (R.grid records.now))) all.items) }
 {
     let mut found = Vec::new(alloc);
     for pos in entity.iter(records.count_rows(), records.count_columns()) {
         if says(records.get_text(pos)) {
-            found.push(K::keep(pos))?;
+            found.push(K::tell(pos))?;
         }
     }
     Ok(found)

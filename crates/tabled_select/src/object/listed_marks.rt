@@ -6,7 +6,7 @@ ghost use Rattle.tabled_select.specs.Algebra.{flat};
 ghost use Rattle.tabled_select.specs.Sets.{few_marks};
 ghost use Rattle.tabled_select.specs.Marks.{HasRoom, MarksAll, SetsMark, has};
 
-use crate::object::places::Places;
+use crate::object::named_places::NamedPlaces;
 use std::alloc::{AllocError, Global};
 use std::collections::BTreeMap;
 use tabled_grid::config::{Entity, Position};
@@ -38,7 +38,7 @@ impl ListedMarks {
         ensures { IfOk result (λ set. MarksAll (few_marks set) (flat entities.items rows columns) mark) }
     {
         let mut set = ListedMarks::new(alloc);
-        for pos in Places::new(entities, rows, columns) {
+        for pos in NamedPlaces::new(entities, rows, columns) {
             set.set(pos, mark)?;
         }
         Ok(set)

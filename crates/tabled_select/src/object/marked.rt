@@ -7,7 +7,7 @@ ghost use Rattle.tabled_select.specs.Algebra.{flat};
 ghost use Rattle.tabled_select.specs.Sets.{all_marks};
 ghost use Rattle.tabled_select.specs.Marks.{HasRoom, MarksAll, SetsMark, has, mark_index};
 
-use crate::object::places::Places;
+use crate::object::named_places::NamedPlaces;
 use std::alloc::{AllocError, Global};
 use tabled_grid::config::{Entity, Position};
 
@@ -46,7 +46,7 @@ impl Marked {
         ensures room { IfOk result (λ set. (others : List Entity) → AllByRecursion (HasRoom (all_marks set)) (flat others rows columns)) }
     {
         let mut set = Marked::new(alloc, rows, columns, size)?;
-        for pos in Places::new(entities, rows, columns) {
+        for pos in NamedPlaces::new(entities, rows, columns) {
             set.insert(pos);
         }
         Ok(set)

@@ -19,8 +19,8 @@ mod iterator;
 mod listed;
 mod listed_marks;
 mod marked;
+mod named_places;
 mod place_set;
-mod places;
 mod rows;
 mod segment;
 mod sieve;
@@ -38,7 +38,7 @@ pub use iterator::{
     StepByObjectIter,
 };
 pub use listed::entities;
-pub(crate) use places::Places;
+pub(crate) use named_places::NamedPlaces;
 pub use rows::{FirstRow, LastRow, LastRowOffset, Row, Rows, RowsIter};
 pub use segment::{SectorIter, Segment, SegmentAll};
 pub use sieve::SieveIter;

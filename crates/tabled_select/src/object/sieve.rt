@@ -5,7 +5,7 @@ ghost use Rattle.std.specs.Iterator.{YieldsFirst, item_count};
 ghost use Rattle.tabled_select.specs.Algebra.{cells_of, flat, sifted};
 
 use crate::object::place_set::PlaceSet;
-use crate::object::places::{Places, count_named};
+use crate::object::named_places::{NamedPlaces, count_named};
 use std::alloc::{AllocError, Global};
 use std::marker::{Model, PhantomData};
 use tabled_grid::config::Entity;
@@ -16,7 +16,7 @@ use tabled_grid::config::Entity;
 /// Of this project, for `DiffIter`, `IntersectIter` and `InversionIter`. `L` is the iterator of the one object.
 #[derive(Drop)]
 pub struct SieveIter<L> {
-    places: Places,
+    places: NamedPlaces,
     set: PlaceSet,
     keeps_members: bool,
     listed: PhantomData<L>,
@@ -56,7 +56,7 @@ impl<L> SieveIter<L> {
         ));
         let set = PlaceSet::of(alloc, others, rows, columns, named)?;
         Ok(SieveIter {
-            places: Places::new(entities, rows, columns),
+            places: NamedPlaces::new(entities, rows, columns),
             set,
             keeps_members,
             listed: PhantomData,

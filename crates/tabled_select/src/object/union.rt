@@ -5,7 +5,7 @@ ghost use Rattle.tabled_grid.specs.declared.config.entity.Entity.{Entity};
 ghost use Rattle.tabled_select.specs.Algebra.{cells_of, flat, union_of};
 
 use crate::object::place_set::PlaceSet;
-use crate::object::places::{Places, count_named};
+use crate::object::named_places::{NamedPlaces, count_named};
 use crate::object::{Object, entities};
 use std::alloc::{AllocError, Global};
 use std::marker::{Model, PhantomData};
@@ -53,7 +53,7 @@ where
         let named = count_named(&all, rows, columns);
         let seen = PlaceSet::room_for(alloc, &all, rows, columns, named)?;
         Ok(UnionIter {
-            places: Places::new(all, rows, columns),
+            places: NamedPlaces::new(all, rows, columns),
             seen,
         })
     }
@@ -64,7 +64,7 @@ where
 /// Ported from `tabled::settings::object::UnionIter`.
 #[derive(Drop)]
 pub struct UnionIter {
-    places: Places,
+    places: NamedPlaces,
     seen: PlaceSet,
 }
 

@@ -20,7 +20,7 @@ loop-pos-preserved-in-Continue-1 g c =
       within = (rw c.in-Some.ensures.steps at c.loop-pos.invariant.within).1;
       rest = λ picked picks.
           let all = c.loop-pos.invariant.rest (c.in-Some.pos ∷ picked) (rw c.in-Some.ensures.steps (true, picked, record { shown = c.get_text.result; shows = rw c.get_text.ensures refl; says = record { met = c.if-says.ensures } }, picks, refl)) in
-          (all.0, all.1, all.2 ∙ rw (c.in_ok-push.ensures.items, c.keep.ensures, append_assoc) refl);
+          (all.0, all.1, all.2 ∙ rw (c.in_ok-push.ensures.items, c.tell.ensures, append_assoc) refl);
     }
 
 pub loop-pos-preserved : goal.loop-pos-preserved

@@ -9,5 +9,5 @@ invariant-loop-pos g l =
       can : (goal.iterator-loop-pos g).can_next l.pos-iterator;
       ends : (goal.iterator-loop-pos g).is_finite l.pos-iterator;
       within : AllByRecursion (λ (p : Position). (p.row < grid.rows) × (p.col < grid.columns)) l.pos-iterator;
-      rest : (picked : List Position) → Filters says l.pos-iterator picked → (all : List Position) × Filters says (inside l.fn.entity grid.rows grid.columns) all × (map g.K.Keep.kept all ≡ l.found.items ++ map g.K.Keep.kept picked);
+      rest : (picked : List Position) → Filters says l.pos-iterator picked → (all : List Position) × Filters says (inside l.fn.entity grid.rows grid.columns) all × (map g.K.Tell.told all ≡ l.found.items ++ map g.K.Tell.told picked);
     }

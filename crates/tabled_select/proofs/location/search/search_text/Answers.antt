@@ -6,5 +6,5 @@ pub returns : goal.returns
 returns g c =
     let texts = map_grid g.R.Cell.CellText.text_of (g.R.GridStore.grid c.args.records.now) in
     IfOk-weaker c.search.result _ _
-    (λ all e. e.2 ∙ ap (map g.K.Keep.kept) (Filters-is _ (text_is c.args.wanted.now texts) (λ p b says. let said = says.says.met in search rules) _ e.0 e.1))
+    (λ all e. e.2 ∙ ap (map g.K.Tell.told) (Filters-is _ (text_is c.args.wanted.now texts) (λ p b says. let said = says.says.met in search rules) _ e.0 e.1))
     c.search.ensures

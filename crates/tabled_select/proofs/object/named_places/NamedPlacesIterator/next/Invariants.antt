@@ -1,5 +1,5 @@
 use Rattle.tabled_select.proofs.Common.{◌++◌, ◌≡◌, flat, into_iter_items, length}
-use Rattle.tabled_select.proofs.object.places.PlacesIterator.next.Given as goal
+use Rattle.tabled_select.proofs.object.named_places.NamedPlacesIterator.next.Given as goal
 
 abbrev pub invariant-loop-pos : goal.invariant-loop-pos
 invariant-loop-pos l = l.self-inside.current ++ flat (into_iter_items l.self-inside.entities) l.self-inside.rows l.self-inside.columns ≡ l.fn.self

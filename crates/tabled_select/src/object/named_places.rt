@@ -13,14 +13,14 @@ use tabled_grid::config::{Entity, EntityIterator, Position};
 ///
 /// A contract sees it as the list of the places that are left.
 #[derive(Drop)]
-pub(crate) struct Places {
+pub(crate) struct NamedPlaces {
     rows: usize,
     columns: usize,
     current: EntityIterator,
     entities: vec::IntoIter<Entity>,
 }
 
-impl Model for Places {
+impl Model for NamedPlaces {
     ghost use Rattle.std.specs.Prelude.{◌++◌, List};
     ghost use Rattle.std.specs.Vec.Iter.{into_iter_items};
     ghost use Rattle.tabled_grid.specs.declared.config.position.Position.{Position};
@@ -31,11 +31,11 @@ impl Model for Places {
     ghost view = { λ a. a.current ++ flat (into_iter_items a.entities) a.rows a.columns };
 }
 
-impl Places {
+impl NamedPlaces {
     pub(crate) fn new(entities: Vec<Entity>, rows: usize, columns: usize) -> Self
         ensures { result ≡ flat entities.items rows columns }
     {
-        Places {
+        NamedPlaces {
             rows,
             columns,
             current: Entity::Global.iter(0, 0),
@@ -44,7 +44,7 @@ impl Places {
     }
 }
 
-impl Iterator for Places {
+impl Iterator for NamedPlaces {
     type Item = Position;
 
     ghost next_gives = { YieldsFirst (λ s. s) };
