@@ -15,13 +15,13 @@ at_place P xs k x is all = subst P (get_or_from_slice_get xs k x x is) (All-get_
 
 module _ {A C : Type 0} (holds : Grid A → C → Type 0) where
   pub keeps_same : Keeps holds Same
-  keeps_same g c h d p same = subst (λ k. holds h k) (sym same.1) (subst (λ m. holds m c) (sym same.0) p)
+  keeps_same old cfg new new_cfg p same = subst (λ k. holds new k) (sym same.1) (subst (λ m. holds m cfg) (sym same.0) p)
 
   pub keeps_then : (first second : Change A C) → Keeps holds first → Keeps holds second → Keeps holds (Then first second)
-  keeps_then first second keeps keeps_second g c h d p done = keeps_second done.0 done.1 h d (keeps g c done.0 done.1 p done.2) done.3
+  keeps_then first second keeps keeps_second old cfg new new_cfg p done = keeps_second done.0 done.1 new new_cfg (keeps old cfg done.0 done.1 p done.2) done.3
 
   pub keeps_same_or : (leaves : Change A C) → Keeps holds leaves → Keeps holds (SameOr leaves)
-  keeps_same_or leaves keeps g c h d p left = grind (arith, common_steps, keeps_same)
+  keeps_same_or leaves keeps old cfg new new_cfg p left = grind (arith, common_steps, keeps_same)
 
   -- two options one after the other
   pub keeps_in_order : (first first_leaves second second_leaves : Change A C) → OptionKeeps holds first first_leaves → OptionKeeps holds second second_leaves → OptionKeeps holds (Then first second) (ThenLeaves first first_leaves second_leaves)
@@ -53,6 +53,6 @@ module _ {A C : Type 0} (holds : Grid A → C → Type 0) where
     -- one option at each item that is listed
     pub keeps_listed : (lists : Grid A → List X → Type 0) → ((x : X) → OptionKeeps holds (does x) (leaves x)) → OptionKeeps holds (EachListed lists does) (EachListedUntil lists does leaves)
     keeps_listed lists keeps = record {
-      done = λ g c h d p done. keeps_each done.0 (all_of (λ x. OptionKeeps holds (does x) (leaves x)) done.0 keeps) g c h d p done.2;
-      refused = λ g c h d p left. (keeps_all left.0 (all_of (λ x. OptionKeeps holds (does x) (leaves x)) left.0 keeps)).refused g c h d p left.2;
+      done = λ old cfg new new_cfg p done. keeps_each done.0 (all_of (λ x. OptionKeeps holds (does x) (leaves x)) done.0 keeps) old cfg new new_cfg p done.2;
+      refused = λ old cfg new new_cfg p left. (keeps_all left.0 (all_of (λ x. OptionKeeps holds (does x) (leaves x)) left.0 keeps)).refused old cfg new new_cfg p left.2;
     }

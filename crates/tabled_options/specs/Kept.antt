@@ -3,8 +3,10 @@ use Rattle.std.specs.Prelude.{List}
 use Rattle.std.specs.List.{AllByRecursion}
 use Rattle.std.specs.declared.clone.Clone as clone
 use Rattle.tabled_grid.specs.Grid.{Grid}
+use Rattle.tabled_grid.specs.Spans.{SpanMap}
 use Rattle.tabled_grid.specs.declared.config.entity.Entity.{Entity}
 use Rattle.tabled_options.specs.Does.{CopiesAlike, OptionKeeps}
+use Rattle.tabled_options.specs.Shapes.{FitsAfter, FitsAfterEach}
 use Rattle.tabled_options.specs.declared.cell_option.CellOption as on_cells
 use Rattle.tabled_options.specs.declared.table_option.TableOption as on_tables
 
@@ -31,6 +33,14 @@ KeptOnEach holds how option = (e : Entity) → KeptOn holds how option e
 -- what two options keep on an entity is kept on it by the option that is made of them
 abbrev pub KeptOnEachByPair : {S T R C A : Type 0} → (Grid A → C → Type 0) → on_cells.Ghosts S R C A → on_cells.Ghosts T R C A → on_cells.Ghosts (S × T) R C A → S → T → Type 0
 KeptOnEachByPair holds first second pair a b = (e : Entity) → KeptOn holds first a e → KeptOn holds second b e → KeptOn holds pair (a, b) e
+
+-- merged cells that fit the table do so after an option on tables, whether it is done or refused
+abbrev pub KeepsFitting : {S R D A : Type 0} → on_tables.Ghosts S R SpanMap D A → S → Type 0
+KeepsFitting how option = FitsAfter (how.does option) (how.leaves option)
+
+-- the same of an option on cells, on each entity
+abbrev pub KeepsFittingOnEach : {S R A : Type 0} → on_cells.Ghosts S R SpanMap A → S → Type 0
+KeepsFittingOnEach how option = FitsAfterEach (how.does option) (how.leaves option)
 
 -- each copy of an option on tables is like it
 abbrev pub Copied : {S R C D A : Type 0} → clone.Ghosts S → on_tables.Ghosts S R C D A → S → Type 0

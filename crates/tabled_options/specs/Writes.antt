@@ -14,29 +14,29 @@ pub record Write : Type 0 where
 
 -- the grid with these texts written, in order
 abbrev pub with_writes : List Write → Grid (List ℕ) → Grid (List ℕ)
-with_writes writes g = fold (λ h (w : Write). with_cell h w.place w.text) g writes
+with_writes writes g = fold (λ written (w : Write). with_cell written w.place w.text) g writes
 
 -- the second grid is the first with the writes before one of these
-pub record FirstWrites (writes : List Write) (g h : Grid (List ℕ)) : Type 0 where
+pub record FirstWrites (writes : List Write) (old new : Grid (List ℕ)) : Type 0 where
   pub count : ℕ
   pub within : count < length writes
-  pub is : h ≡ with_writes (take count writes) g
+  pub is : new ≡ with_writes (take count writes) old
 
 -- writes that the old texts name
 abbrev pub Written : {A : Type 0} → (A → List ℕ) → (Grid (List ℕ) → List Write) → Grid A → Grid A → Type 0
-Written text_of writes g h = map_grid text_of h ≡ with_writes (writes (map_grid text_of g)) (map_grid text_of g)
+Written text_of writes old new = map_grid text_of new ≡ with_writes (writes (map_grid text_of old)) (map_grid text_of old)
 
 -- the same for the writes before one of these
 abbrev pub FirstWritten : {A : Type 0} → (A → List ℕ) → (Grid (List ℕ) → List Write) → Grid A → Grid A → Type 0
-FirstWritten text_of writes g h = FirstWrites (writes (map_grid text_of g)) (map_grid text_of g) (map_grid text_of h)
+FirstWritten text_of writes old new = FirstWrites (writes (map_grid text_of old)) (map_grid text_of old) (map_grid text_of new)
 
 -- writes that the old texts name, and the configuration as it was
 abbrev pub DoesWrites : {A C : Type 0} → (A → List ℕ) → (Grid (List ℕ) → List Write) → Change A C
-DoesWrites text_of writes g c h d = Written text_of writes g h × (d ≡ c)
+DoesWrites text_of writes old cfg new new_cfg = Written text_of writes old new × (new_cfg ≡ cfg)
 
 -- the same for the writes before one of these
 abbrev pub DoesFirstWrites : {A C : Type 0} → (A → List ℕ) → (Grid (List ℕ) → List Write) → Change A C
-DoesFirstWrites text_of writes g c h d = FirstWritten text_of writes g h × (d ≡ c)
+DoesFirstWrites text_of writes old cfg new new_cfg = FirstWritten text_of writes old new × (new_cfg ≡ cfg)
 
 -- nothing changed, or the writes before one of these
 abbrev pub SameOrFirstWrites : {A C : Type 0} → (A → List ℕ) → (Grid (List ℕ) → List Write) → Change A C

@@ -3,10 +3,9 @@
 ghost use Rattle.std.specs.Prelude.{◌≡◌, true};
 ghost use Rattle.tabled_grid.specs.Entity.{names};
 ghost use Rattle.tabled_grid.specs.declared.config.entity.Entity.{Entity};
-ghost use Rattle.tabled_options.specs.Does.{OptionKeeps};
 ghost use Rattle.tabled_options.specs.Hints.{combined};
-ghost use Rattle.tabled_options.specs.Kept.{CellCopiedAsPair, CopiedAsAll, CopiedAsPair, KeptByAll, KeptByPair, KeptOnEachByPair};
-ghost use Rattle.tabled_options.specs.Shapes.{FitsAfterEach, FitsInSameShape};
+ghost use Rattle.tabled_options.specs.Kept.{CellCopiedAsPair, CopiedAsAll, CopiedAsPair, KeepsFittingOnEach, KeptBy, KeptByAll, KeptByPair, KeptOnEach, KeptOnEachByPair};
+ghost use Rattle.tabled_options.specs.Shapes.{FitsInSameShape};
 
 use crate::cell_option::CellOption;
 use crate::modify::ModifyList;
@@ -111,9 +110,7 @@ where
     P: Property<R::Cell, C>,
     O: Object<R> + Drop,
     M: CellOption<R, C> + Clone,
-    ensures each { ((e : Entity) → OptionKeeps P.holds (M.does _option.now e) (M.leaves _option.now e))
-        → OptionKeeps P.holds (⟦<ModifyList<O, M> as TableOption<R, C, D>>⟧.does (_object.now, _option.now))
-        (⟦<ModifyList<O, M> as TableOption<R, C, D>>⟧.leaves (_object.now, _option.now)) }
+    ensures each { KeptOnEach P.holds M.CellOption _option.now → KeptBy P.holds ⟦<ModifyList<O, M> as TableOption<R, C, D>>⟧ (_object.now, _option.now) }
 {}
 
 /// An option on cells that leaves the numbers of rows and columns and the configuration, done or refused,
@@ -138,7 +135,7 @@ pub fn strings_keep_merged_cells_fitting<R>(_text: &String)
 where
     R: Records + ExactRecords + RecordsMut<String>,
     R::Cell: CellText,
-    ensures cells { let how = ⟦<String as CellOption<R, SpannedConfig>>⟧ in FitsAfterEach (how.does _text.now) (how.leaves _text.now) }
+    ensures cells { KeepsFittingOnEach ⟦<String as CellOption<R, SpannedConfig>>⟧ _text.now }
 {}
 
 /// A text that is lent does so, too.
@@ -146,5 +143,5 @@ pub fn lent_texts_keep_merged_cells_fitting<'a, R>(_text: TextRef<'a>)
 where
     R: Records + ExactRecords + RecordsMut<&'a str>,
     R::Cell: CellText,
-    ensures cells { let how = ⟦<TextRef<'a> as CellOption<R, SpannedConfig>>⟧ in FitsAfterEach (how.does _text.entry) (how.leaves _text.entry) }
+    ensures cells { KeepsFittingOnEach ⟦<TextRef<'a> as CellOption<R, SpannedConfig>>⟧ _text.entry }
 {}

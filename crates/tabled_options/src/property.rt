@@ -15,5 +15,5 @@ pub trait Property<A, C> {
 pub struct MergedCellsFit;
 
 impl<A> Property<A, SpannedConfig> for MergedCellsFit {
-    ghost holds = { λ g c. Fits c g.rows g.columns };
+    ghost holds = { λ g m. Fits m g.rows g.columns };
 }

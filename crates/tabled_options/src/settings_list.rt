@@ -152,7 +152,7 @@ where
 
     ghost can_change = { λ s. A.can_change s.0 × B.can_change s.1 };
 
-    ghost never_refused = { λ s g c. A.never_refused s.0 g c × AfterNeverRefused (A.does s.0) (B.never_refused s.1) g c };
+    ghost never_refused = { λ s old cfg. A.never_refused s.0 old cfg × AfterNeverRefused (A.does s.0) (B.never_refused s.1) old cfg };
 
     ghost is_like = { λ p q. A.is_like p.0 q.0 × B.is_like p.1 q.1 };
 
@@ -190,7 +190,7 @@ where
 
     ghost can_change = { λ s. A.can_change s.0 × B.can_change s.1 };
 
-    ghost never_refused = { λ s e g c. A.never_refused s.0 e g c × AfterNeverRefused (A.does s.0 e) (B.never_refused s.1 e) g c };
+    ghost never_refused = { λ s e old cfg. A.never_refused s.0 e old cfg × AfterNeverRefused (A.does s.0 e) (B.never_refused s.1 e) old cfg };
 
     ghost is_like = { λ p q. A.is_like p.0 q.0 × B.is_like p.1 q.1 };
 
