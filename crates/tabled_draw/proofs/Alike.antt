@@ -1,5 +1,5 @@
 -- Tables whose texts differ only where merged cells hide them have one picture.
-use Rattle.tabled_draw.proofs.Common.{Alignment, Columns, Grid, In, List, Member, None, Option, Position, Rectangle, Rows, Some, SpanMap, Style, [], across, aligned, alignment_in, ap, ap₂, are_none, arith, arms, asks, border, border_line, by_number, cases_Bool, column_between, cond, cond-false, count_along, differ, each, edge_between, encode_utf8_all, rectangles, eqb, false, false_from_ne_true, false≢true, fitting, fold, get_or, grown_for, grown_sizes, heights, holds, holds-true, in_order, inl, inr, is_hidden_in, largest, least, line_of, line_size, lines_around, lines_in, lines_of_row, lines_shown, mark, not, own, own_sizes, owner_in, picture, picture_bytes, picture_line, place, place_in, refl, replicate, room, same_place, same_place-self, same_place-true, shows, shows_in, start_of, subst, sym, text_of_cell, top, true, widths, with_newlines, ℕ, ◌&&◌, ◌++◌, ◌+◌, ◌-◌, ◌<◌, ◌==◌, ◌||◌, ◌∙◌, ◌∷◌, ◌≡◌, ◌⊎◌}
+use Rattle.tabled_draw.proofs.Common.{Alignment, Columns, Grid, In, List, Member, None, Option, Plan, Position, Rectangle, Rows, Some, SpanMap, Style, [], across, aligned, alignment_in, ap, ap₂, are_none, arith, arms, asks, border, border_line, by_number, bytes_of_lines, cases_Bool, column_at, cond, cond-false, count_along, differ, each, edge_at, eqb, false, false_from_ne_true, fitting, fold, get_or, grown_for, grown_sizes, heights, holds, holds-true, in_order, inl, inr, is_hidden_in, largest, least, line_at, line_height, line_of, line_size, lines_around, lines_in, lines_of_row, lines_shown, mark, not, own, own_sizes, owner_in, picture, picture_lines, place, place_in, plan_of, rectangles, refl, replicate, room, same_place, same_place-self, same_place-true, shows, shows_in, start_of, subst, sym, text_of_cell, top, true, widths, ℕ, ◌&&◌, ◌++◌, ◌+◌, ◌-◌, ◌<◌, ◌==◌, ◌||◌, ◌∙◌, ◌∷◌, ◌≡◌, false≢true}
 use Rattle.std.proofs.lemmas.Bool.{and_parts}
 use Rattle.tabled_draw.proofs.Each.{each-same}
 use Rattle.tabled_draw.proofs.Fitting.{kept-well}
@@ -14,14 +14,20 @@ use Rattle.tabled_grid.proofs.Members.{any-member}
 use Rattle.tabled_grid.specs.declared.records.axis.Axis.{Axis}
 
 module _ (style : Style) (aligns : List Alignment) (g h : Grid (List ℕ)) (es : List Rectangle) (well : LieWell g.rows g.columns es) (alike : AreSeenAlike g h es) where
+  abbrev one : Plan
+  one = plan_of style g es
+
+  abbrev two : Plan
+  two = plan_of style h es
+
   -- ---- texts that are seen
 
   -- nothing hides the place where an owner begins
   owner-seen : (p : Position) → p.row < g.rows → p.col < g.columns → is_hidden_in es (owner_in es p).first ≡ false
-  owner-seen p low far = false_from_ne_true _ (λ t. by (any-member (λ (e : Rectangle). holds e (owner_in es p).first && not (same_place e.first (owner_in es p).first)) es t))
+  owner-seen p low far = false_from_ne_true _ (λ t. none-hides (any-member (λ (e : Rectangle). holds e (owner_in es p).first && not (same_place e.first (owner_in es p).first)) es t))
     where
       lies : LiesIn g.rows g.columns (owner_in es p)
-      lies = owner-lies g.rows g.columns es well p low far
+      lies = owner-lies well p low far
 
       here : In (owner_in es p) (owner_in es p).first
       here = record { top = omega arith; bottom = omega (arith, lies.high); left = omega arith; right = omega (arith, lies.wide) }
@@ -30,8 +36,8 @@ module _ (style : Style) (aligns : List Alignment) (g h : Grid (List ℕ)) (es :
       begins e m inside (held n k) = ap (λ (x : Rectangle). x.first) (well.apart e (owner_in es p) (owner_in es p).first m n inside here)
       begins e m inside (alone is never) = absurd (never e m (subst (λ (x : Rectangle). In e x.first) is inside))
 
-      by : (e : Rectangle) × Member e es × ((holds e (owner_in es p).first && not (same_place e.first (owner_in es p).first)) ≡ true) → ⊥
-      by found =
+      none-hides : (e : Rectangle) × Member e es × ((holds e (owner_in es p).first && not (same_place e.first (owner_in es p).first)) ≡ true) → ⊥
+      none-hides found =
           let e = found.0 in
           let parts = and_parts (holds e (owner_in es p).first) (not (same_place e.first (owner_in es p).first)) found.2 in
           let same : e.first ≡ (owner_in es p).first = begins e found.1 (holds-true e (owner_in es p).first parts.0) (owned es p) in
@@ -39,13 +45,13 @@ module _ (style : Style) (aligns : List Alignment) (g h : Grid (List ℕ)) (es :
 
   owner-text : (p : Position) → p.row < g.rows → p.col < g.columns → text_of_cell g (owner_in es p).first ≡ text_of_cell h (owner_in es p).first
   owner-text p low far =
-      let lies : LiesIn g.rows g.columns (owner_in es p) = owner-lies g.rows g.columns es well p low far in
+      let lies : LiesIn g.rows g.columns (owner_in es p) = owner-lies well p low far in
       alike.texts (owner_in es p).first (record { inside = record { row = omega (arith, lies.bottom, lies.high); col = omega (arith, lies.right, lies.wide) }; seen = owner-seen p low far })
 
   member-text : (e : Rectangle) → Member e es → text_of_cell g e.first ≡ text_of_cell h e.first
   member-text e m =
       let lies : LiesIn g.rows g.columns e = well.lies e m in
-      subst (λ (x : Rectangle). text_of_cell g x.first ≡ text_of_cell h x.first) (member-owner g.rows g.columns es well e e.first m (record { top = omega arith; bottom = omega (arith, lies.high); left = omega arith; right = omega (arith, lies.wide) }))
+      subst (λ (x : Rectangle). text_of_cell g x.first ≡ text_of_cell h x.first) (member-owner well e e.first m (record { top = omega arith; bottom = omega (arith, lies.high); left = omega arith; right = omega (arith, lies.wide) }))
       (owner-text e.first (omega (arith, lies.bottom, lies.high)) (omega (arith, lies.right, lies.wide)))
 
   -- ---- sizes
@@ -55,11 +61,10 @@ module _ (style : Style) (aligns : List Alignment) (g h : Grid (List ℕ)) (es :
   count-alike Columns = alike.columns
 
   own-alike : (axis : Axis) (p : Position) → p.row < g.rows → p.col < g.columns → own axis g es p ≡ own axis h es p
-  own-alike axis p low far = by (cases_Bool (same_place (owner_in es p).first p))
-    where
-      by : (same_place (owner_in es p).first p ≡ true) ⊎ (same_place (owner_in es p).first p ≡ false) → own axis g es p ≡ own axis h es p
-      by (inl t) = ap (λ x. cond (same_place (owner_in es p).first p && (lines_in axis (owner_in es p).size == 1)) (asks axis x) 0) (subst (λ q. text_of_cell g q ≡ text_of_cell h q) (same_place-true (owner_in es p).first p t) (owner-text p low far))
-      by (inr f) = cond-false _ _ _ (ap (λ b. b && (lines_in axis (owner_in es p).size == 1)) f) ∙ sym (cond-false _ _ _ (ap (λ b. b && (lines_in axis (owner_in es p).size == 1)) f))
+  own-alike axis p low far = elim (cases_Bool (same_place (owner_in es p).first p)) [
+    | inl t ↦ ap (λ x. cond (same_place (owner_in es p).first p && (lines_in axis (owner_in es p).size == 1)) (asks axis x) 0) (subst (λ q. text_of_cell g q ≡ text_of_cell h q) (same_place-true (owner_in es p).first p t) (owner-text p low far))
+    | inr f ↦ cond-false _ _ _ (ap (λ b. b && (lines_in axis (owner_in es p).size == 1)) f) ∙ sym (cond-false _ _ _ (ap (λ b. b && (lines_in axis (owner_in es p).size == 1)) f))
+  ]
 
   own_sizes-alike : (axis : Axis) → own_sizes axis g es ≡ own_sizes axis h es
   own_sizes-alike axis =
@@ -94,54 +99,54 @@ module _ (style : Style) (aligns : List Alignment) (g h : Grid (List ℕ)) (es :
   owner-alike : (i j : ℕ) → owner g.rows g.columns es i j ≡ owner h.rows h.columns es i j
   owner-alike i j = ap₂ (λ r c. owner r c es i j) alike.rows alike.columns
 
-  shows-alike : (n : ℕ) (o : Rectangle) → text_of_cell g o.first ≡ text_of_cell h o.first → shows style aligns g es n o ≡ shows style aligns h es n o
+  shows-alike : (n : ℕ) (o : Rectangle) → text_of_cell g o.first ≡ text_of_cell h o.first → shows one aligns n o ≡ shows two aligns n o
   shows-alike n o text = ap₂ (aligned (alignment_in aligns o.first.col))
       (ap₂ (λ k s. room Columns (line_size style.columns k) s o.first.col o.size.width) alike.columns (sizes-alike Columns))
       (ap₂ (λ t k. get_or (lines_shown t) k []) text (ap₂ (λ a b. n - a - b) (start-alike Rows o.first.row) (border-alike Rows o.first.row)))
 
-  shows_in-alike : (n i j : ℕ) → shows_in style aligns g es n j (owner g.rows g.columns es i (j + 1)) ≡ shows_in style aligns h es n j (owner g.rows g.columns es i (j + 1))
-  shows_in-alike n i j = by (owner g.rows g.columns es i (j + 1)) refl
+  shows_in-alike : (n i j : ℕ) → shows_in one aligns n j (owner g.rows g.columns es i (j + 1)) ≡ shows_in two aligns n j (owner g.rows g.columns es i (j + 1))
+  shows_in-alike n i j = owner-shows (owner g.rows g.columns es i (j + 1)) refl
     where
-      by : (a : Option Rectangle) → owner g.rows g.columns es i (j + 1) ≡ a → shows_in style aligns g es n j a ≡ shows_in style aligns h es n j a
-      by None e = refl
-      by (Some o) e =
-          let s = owner-some g.rows g.columns es i (j + 1) o e in
+      owner-shows : (a : Option Rectangle) → owner g.rows g.columns es i (j + 1) ≡ a → shows_in one aligns n j a ≡ shows_in two aligns n j a
+      owner-shows None e = refl
+      owner-shows (Some o) e =
+          let s = owner-some e in
           let text : text_of_cell g o.first ≡ text_of_cell h o.first = subst (λ (x : Rectangle). text_of_cell g x.first ≡ text_of_cell h x.first) (sym s.is) (owner-text (place s.row s.col) s.below s.right) in
           ap (λ x. cond (eqb o.first.col j) x []) (shows-alike n o text)
 
-  edge-alike : (u d j : ℕ) → edge_between style g es u d j ≡ edge_between style h es u d j
+  edge-alike : (u d j : ℕ) → edge_at one u d j ≡ edge_at two u d j
   edge-alike u d j = ap₂ (λ r c. cond (are_none (arms (owner r c es u j) (owner r c es u (j + 1)) (owner r c es d j) (owner r c es d (j + 1)))) []
       (replicate (line_size style.columns c j) (mark style (eqb u d) (arms (owner r c es u j) (owner r c es u (j + 1)) (owner r c es d j) (owner r c es d (j + 1)))))) alike.rows alike.columns
 
-  column-alike : (n u d j : ℕ) → column_between style aligns g es n u d j ≡ column_between style aligns h es n u d j
+  column-alike : (n u d j : ℕ) → column_at one aligns n u d j ≡ column_at two aligns n u d j
   column-alike n u d j =
       ap₂ (λ s x. cond (differ (owner g.rows g.columns es u (j + 1)) (owner g.rows g.columns es d (j + 1))) (replicate (get_or s j 0 + 2) style.horizontal) x) (sizes-alike Columns) (shows_in-alike n u j)
-      ∙ ap₂ (λ a b. cond (differ a b) (replicate (get_or (widths style h es) j 0 + 2) style.horizontal) (shows_in style aligns h es n j a)) (owner-alike u (j + 1)) (owner-alike d (j + 1))
+      ∙ ap₂ (λ a b. cond (differ a b) (replicate (get_or (widths two) j 0 + 2) style.horizontal) (shows_in two aligns n j a)) (owner-alike u (j + 1)) (owner-alike d (j + 1))
 
-  line-alike : (n u d : ℕ) → picture_line style aligns g es n u d ≡ picture_line style aligns h es n u d
+  line-alike : (n u d : ℕ) → line_at one aligns n u d ≡ line_at two aligns n u d
   line-alike n u d =
-      let part : Grid (List ℕ) → ℕ → List ℕ = λ t j. edge_between style t es u d j ++ column_between style aligns t es n u d j in
+      let part : Plan → ℕ → List ℕ = λ p j. edge_at p u d j ++ column_at p aligns n u d j in
       ap₂ (λ x y. x ++ y)
-      (each-same (part g) (part h) g.columns (λ j less. ap₂ (λ x y. x ++ y) (edge-alike u d j) (column-alike n u d j)) ∙ ap (λ c. each c (part h)) alike.columns)
-      (edge-alike u d g.columns ∙ ap (edge_between style h es u d) alike.columns)
+      (each-same (part one) (part two) g.columns (λ j less. ap₂ (λ x y. x ++ y) (edge-alike u d j) (column-alike n u d j)) ∙ ap (λ c. each c (part two)) alike.columns)
+      (edge-alike u d g.columns ∙ ap (edge_at two u d) alike.columns)
 
-  border_line-alike : (i : ℕ) → border_line style aligns g es i ≡ border_line style aligns h es i
-  border_line-alike i = ap₂ replicate (border-alike Rows i) (line-alike (top style g es i) i (i + 1) ∙ ap (λ n. picture_line style aligns h es n i (i + 1)) (start-alike Rows i))
+  border_line-alike : (i : ℕ) → border_line one aligns i ≡ border_line two aligns i
+  border_line-alike i = ap₂ replicate (border-alike Rows i) (line-alike (top one i) i (i + 1) ∙ ap (λ n. line_at two aligns n i (i + 1)) (start-alike Rows i))
 
-  row-alike : (i : ℕ) → lines_of_row style aligns g es i ≡ lines_of_row style aligns h es i
+  row-alike : (i : ℕ) → lines_of_row one aligns i ≡ lines_of_row two aligns i
   row-alike i =
-      let line : Grid (List ℕ) → ℕ → List (List ℕ) = λ t y. picture_line style aligns t es (top style t es i + border Rows style t i + y) (i + 1) (i + 1) ∷ [] in
+      let line : Plan → ℕ → List (List ℕ) = λ p y. line_at p aligns (top p i + line_height p i + y) (i + 1) (i + 1) ∷ [] in
       ap₂ (λ x y. x ++ y) (border_line-alike i)
-      (each-same (line g) (line h) (get_or (heights style g es) i 0) (λ y less. ap (λ x. x ∷ []) (line-alike (top style g es i + border Rows style g i + y) (i + 1) (i + 1) ∙ ap₂ (λ a b. picture_line style aligns h es (a + b + y) (i + 1) (i + 1)) (start-alike Rows i) (border-alike Rows i)))
-      ∙ ap (λ s. each (get_or s i 0) (line h)) (sizes-alike Rows))
+      (each-same (line one) (line two) (get_or (heights one) i 0) (λ y less. ap (λ x. x ∷ []) (line-alike (top one i + line_height one i + y) (i + 1) (i + 1) ∙ ap₂ (λ a b. line_at two aligns (a + b + y) (i + 1) (i + 1)) (start-alike Rows i) (border-alike Rows i)))
+      ∙ ap (λ s. each (get_or s i 0) (line two)) (sizes-alike Rows))
 
-  pub picture-alike : picture style aligns g es ≡ picture style aligns h es
+  pub picture-alike : picture_lines one aligns ≡ picture_lines two aligns
   picture-alike =
-      ap (cond ((g.rows == 0) || (g.columns == 0)) []) (ap₂ (λ x y. x ++ y) (each-same (lines_of_row style aligns g es) (lines_of_row style aligns h es) g.rows (λ i less. row-alike i)) (border_line-alike g.rows))
-      ∙ ap₂ (λ r c. cond ((r == 0) || (c == 0)) [] (each r (lines_of_row style aligns h es) ++ border_line style aligns h es r)) alike.rows alike.columns
+      ap (cond ((g.rows == 0) || (g.columns == 0)) []) (ap₂ (λ x y. x ++ y) (each-same (lines_of_row one aligns) (lines_of_row two aligns) g.rows (λ i less. row-alike i)) (border_line-alike g.rows))
+      ∙ ap₂ (λ r c. cond ((r == 0) || (c == 0)) [] (each r (lines_of_row two aligns) ++ border_line two aligns r)) alike.rows alike.columns
 
 pub drawn-alike : (style : Style) (aligns : List Alignment) (g h : Grid (List ℕ)) (m : SpanMap) → AreSeenAlike g h (fitting g.rows g.columns (rectangles m)) → drawn_with style aligns g m ≡ drawn_with style aligns h m
 unfolding drawn_with
 drawn-alike style aligns g h m alike =
-    ap (λ lines. encode_utf8_all (with_newlines lines)) (picture-alike style aligns g h (fitting g.rows g.columns (rectangles m)) (kept-well m g.rows g.columns) alike)
-    ∙ ap₂ (λ r c. picture_bytes style aligns h (fitting r c (rectangles m))) alike.rows alike.columns
+    ap bytes_of_lines (picture-alike style aligns g h (fitting g.rows g.columns (rectangles m)) (kept-well m g.rows g.columns) alike)
+    ∙ ap₂ (λ r c. bytes_of_lines (picture style aligns h (fitting r c (rectangles m)))) alike.rows alike.columns

@@ -1,6 +1,6 @@
 -- Rows of owners of which each begins at its own place.
 use Rattle.std.proofs.Common.{le-ltb}
-use Rattle.tabled_draw.proofs.Common.{AreUnmerged, BeginHere, IsOwnerRow, None, Option, List, Position, Rectangle, Some, SpanMap, ap, ap₂, arith, begins_at, cases_eq, cases_lt, differ, rectangles, false, false≢true, get_or, inl, inr, lt-ltb, nat_lt, nat_tests, not, place, refl, same_place, same_place-true, subst, sym, true, ℕ, ◌+◌, ◌-◌, ◌<◌, ◌∙◌, ◌≡◌, ◌≢◌, ◌≤◌, ◌⊎◌}
+use Rattle.tabled_draw.proofs.Common.{AreUnmerged, BeginHere, IsOwnerRow, List, None, Option, Position, Rectangle, Some, SpanMap, ap, ap₂, arith, begins_at, cases_eq, cases_lt, differ, false, get_or, inl, inr, lt-ltb, nat_lt, nat_tests, not, place, rectangles, refl, same_place, same_place-true, subst, sym, true, ℕ, ◌+◌, ◌-◌, ◌<◌, ◌∙◌, ◌≡◌, ◌≤◌, false≢true}
 use Rattle.tabled_draw.proofs.Arms.{same-arms}
 use Rattle.tabled_draw.proofs.Owned.{owner-left, owner-right}
 
@@ -24,7 +24,7 @@ other-column i j k less = grind (arith, nat_tests)
 other-row : (h i j : ℕ) → h < i → same_place (place h j) (place i j) ≡ false
 other-row h i j less = grind (arith, nat_tests)
 
-module _ (rows columns : ℕ) (m : SpanMap) (i : ℕ) (row : List (Option Rectangle)) (is : IsOwnerRow rows columns m (i + 1) row) (here : BeginHere i row) where
+module _ (rows columns : ℕ) (m : SpanMap) (i : ℕ) (row : List (Option Rectangle)) (is : IsOwnerRow rows columns (rectangles m) (i + 1) row) (here : BeginHere i row) where
   pub outer-left : get_or row 0 None ≡ None
   outer-left = is.each 0 (omega arith) ∙ owner-left rows columns (rectangles m) (i + 1)
 
@@ -39,31 +39,32 @@ module _ (rows columns : ℕ) (m : SpanMap) (i : ℕ) (row : List (Option Rectan
 
   -- a border lies at each edge of the row
   pub differ-beside : (j : ℕ) → j ≤ columns → 0 < columns → differ (get_or row j None) (get_or row (j + 1) None) ≡ true
-  differ-beside j less wide = by (cases_eq j 0) (cases_lt j columns)
-    where
-      by : (j ≡ 0) ⊎ (j ≢ 0) → (j < columns) ⊎ (columns ≤ j) → differ (get_or row j None) (get_or row (j + 1) None) ≡ true
-      by (inl first) (inl more) = differ-before _ _ (place i j) (begins-here j more) (ap (λ k. get_or row k None) first ∙ outer-left)
-      by (inl first) (inr last) = absurd (omega (arith, first, last, wide))
-      by (inr later) (inl more) = differ-apart _ _ (place i (j - 1)) (place i j) (begins-before j (omega (arith, later)) less) (begins-here j more) (other-column i (j - 1) j (omega (arith, later)))
-      by (inr later) (inr last) = differ-after _ _ (place i (j - 1)) (begins-before j (omega (arith, later)) less) (outer-right j (omega (arith, less, last)))
+  differ-beside j less wide = elim (cases_eq j 0) [
+    | inl first ↦ elim (cases_lt j columns) [
+      | inl more ↦ differ-before _ _ (place i j) (begins-here j more) (ap (λ k. get_or row k None) first ∙ outer-left)
+      | inr last ↦ absurd (omega (arith, first, last, wide))
+    ]
+    | inr later ↦ elim (cases_lt j columns) [
+      | inl more ↦ differ-apart _ _ (place i (j - 1)) (place i j) (begins-before j (omega (arith, later)) less) (begins-here j more) (other-column i (j - 1) j (omega (arith, later)))
+      | inr last ↦ differ-after _ _ (place i (j - 1)) (begins-before j (omega (arith, later)) less) (outer-right j (omega (arith, less, last)))
+    ]
+  ]
 
-module _ (rows columns : ℕ) (m : SpanMap) (i : ℕ) (above below : List (Option Rectangle)) (some : 0 < i) (wide : 0 < columns) (over : IsOwnerRow rows columns m i above) (under : IsOwnerRow rows columns m (i + 1) below) (first : BeginHere (i - 1) above) (second : BeginHere i below) where
-  over-is : IsOwnerRow rows columns m (i - 1 + 1) above
-  over-is = subst (λ k. IsOwnerRow rows columns m k above) (let e : i ≡ i - 1 + 1 = omega (arith, some) in e) over
+module _ (rows columns : ℕ) (m : SpanMap) (i : ℕ) (above below : List (Option Rectangle)) (some : 0 < i) (wide : 0 < columns) (over : IsOwnerRow rows columns (rectangles m) i above) (under : IsOwnerRow rows columns (rectangles m) (i + 1) below) (first : BeginHere (i - 1) above) (second : BeginHere i below) where
+  over-is : IsOwnerRow rows columns (rectangles m) (i - 1 + 1) above
+  over-is = subst (λ k. IsOwnerRow rows columns (rectangles m) k above) (let e : i ≡ i - 1 + 1 = omega (arith, some) in e) over
 
   differ-right : (j : ℕ) → j ≤ columns → differ (get_or above (j + 1) None) (get_or below (j + 1) None) ≡ nat_lt j columns
-  differ-right j less = by (cases_lt j columns)
-    where
-      by : (j < columns) ⊎ (columns ≤ j) → differ (get_or above (j + 1) None) (get_or below (j + 1) None) ≡ nat_lt j columns
-      by (inl more) = differ-apart _ _ (place (i - 1) j) (place i j) (begins-here rows columns m (i - 1) above over-is first j more) (begins-here rows columns m i below under second j more) (other-row (i - 1) i j (omega (arith, some))) ∙ sym (lt-ltb j columns more)
-      by (inr last) = ap₂ differ (outer-right rows columns m (i - 1) above over-is first j (omega (arith, less, last))) (outer-right rows columns m i below under second j (omega (arith, less, last))) ∙ sym (le-ltb j columns last)
+  differ-right j less = elim (cases_lt j columns) [
+    | inl more ↦ differ-apart _ _ (place (i - 1) j) (place i j) (begins-here rows columns m (i - 1) above over-is first j more) (begins-here rows columns m i below under second j more) (other-row (i - 1) i j (omega (arith, some))) ∙ sym (lt-ltb j columns more)
+    | inr last ↦ ap₂ differ (outer-right rows columns m (i - 1) above over-is first j (omega (arith, less, last))) (outer-right rows columns m i below under second j (omega (arith, less, last))) ∙ sym (le-ltb j columns last)
+  ]
 
   differ-left : (j : ℕ) → j ≤ columns → differ (get_or above j None) (get_or below j None) ≡ nat_lt 0 j
-  differ-left j less = by (cases_eq j 0)
-    where
-      by : (j ≡ 0) ⊎ (j ≢ 0) → differ (get_or above j None) (get_or below j None) ≡ nat_lt 0 j
-      by (inl none) = ap₂ differ (ap (λ k. get_or above k None) none ∙ outer-left rows columns m (i - 1) above over-is first) (ap (λ k. get_or below k None) none ∙ outer-left rows columns m i below under second) ∙ ap (nat_lt 0) (sym none)
-      by (inr more) = differ-apart _ _ (place (i - 1) (j - 1)) (place i (j - 1)) (begins-before rows columns m (i - 1) above over-is first j (omega (arith, more)) less) (begins-before rows columns m i below under second j (omega (arith, more)) less) (other-row (i - 1) i (j - 1) (omega (arith, some))) ∙ sym (lt-ltb 0 j (omega (arith, more)))
+  differ-left j less = elim (cases_eq j 0) [
+    | inl none ↦ ap₂ differ (ap (λ k. get_or above k None) none ∙ outer-left rows columns m (i - 1) above over-is first) (ap (λ k. get_or below k None) none ∙ outer-left rows columns m i below under second) ∙ ap (nat_lt 0) (sym none)
+    | inr more ↦ differ-apart _ _ (place (i - 1) (j - 1)) (place i (j - 1)) (begins-before rows columns m (i - 1) above over-is first j (omega (arith, more)) less) (begins-before rows columns m i below under second j (omega (arith, more)) less) (other-row (i - 1) i (j - 1) (omega (arith, some))) ∙ sym (lt-ltb 0 j (omega (arith, more)))
+  ]
 
   -- at the line between two such rows no cells are merged
   pub apart-rows : i < rows → AreUnmerged rows columns i above below

@@ -10,21 +10,19 @@ pub use Rattle.std.proofs.lemmas.Str.{IsUtf8-past_char, chars-IsAscii, chars-nil
 pub use Rattle.std.specs.List.{after_first, before_first, position_or_len, slice_split, sum, sum_by}
 pub use Rattle.std.specs.Str.Iter.{chars_rest, split_has_more, split_pattern, split_text}
 pub use Rattle.tabled_draw.specs.Alignments.{aligned, alignment_in, cell, indent}
-pub use Rattle.tabled_draw.specs.Borders.{Arms, are_none, arms, border, corner, corner_if, differ, is_drawn, line_size, lines_around, mark, size_if, unmerged_arms}
+pub use Rattle.tabled_draw.specs.Borders.{Arms, are_none, arms, border, corner, corner_if, differ, edge, is_drawn, line_size, lines_around, mark, size_if, unmerged_arms}
 pub use Rattle.tabled_draw.specs.Each.{by_number, each, is_in_range, largest, total}
 pub use Rattle.tabled_draw.specs.Laid.{AreEdges}
-pub use Rattle.tabled_draw.specs.Lines.{AreLeft, ArePlain, AreUnmerged, EndInside, IsBetween, IsLine, after_line, begins, begun, column, column_if, edge, edge_before, first_line, left_if, left_inside, left_of, level, line_between, marked, stretches, text_inside, unmerged_corner, unmerged_stretch}
+pub use Rattle.tabled_draw.specs.Lines.{AreLeft, EndInside, IsCutAt, begins, begun, bytes_in, column, drawn_border, edge_before, left_if, left_inside, left_of, plan_on, stretch, text_inside}
 pub use Rattle.tabled_draw.specs.Marks.{IsFine, IsFineMark, IsNoControl}
-pub use Rattle.tabled_draw.specs.Measured.{Measured, raised}
 pub use Rattle.tabled_draw.specs.Overall.{AreEquallyWide, AreNoControls, AreNoLargerThanAsked, HoldsOfPictures, drawn_lines, lacking, most_asked, takes}
-pub use Rattle.tabled_draw.specs.OwnerRows.{BeginHere, IsOwnerRow, begins_at, chosen, count_before, is_before, is_held_by}
-pub use Rattle.tabled_draw.specs.Owners.{owner_in}
+pub use Rattle.tabled_draw.specs.Owners.{BeginHere, IsOwnerRow, begins_at, chosen, count_before, is_before, is_held_by, owner_in}
 pub use Rattle.tabled_draw.specs.Pens.{Draws, IsDone, Sends}
-pub use Rattle.tabled_draw.specs.Picture.{border_line, column_between, edge_between, left, lines_of_row, picture, picture_bytes, picture_line, shows, shows_in, top, with_newlines}
-pub use Rattle.tabled_draw.specs.Rests.{IsCutAt, border_of_rests, bytes_in, line_of_rests}
-pub use Rattle.tabled_draw.specs.Sizes.{asks, grown_for, grown_sizes, heights, in_order, least, own, own_sizes, pad, room, share, start_of, text_of_cell, widths}
+pub use Rattle.tabled_draw.specs.Picture.{Plan, border_line, bytes_of_lines, column_at, edge_at, heights, left, line_at, line_height, line_width, lines_of_row, owner_at, picture, picture_lines, plan_of, shows, shows_in, top, widths, with_newlines}
+pub use Rattle.tabled_draw.specs.Sizes.{Measured, asks, grown_for, grown_sizes, in_order, least, own, own_sizes, pad, raised, room, share, start_of, text_of_cell}
 pub use Rattle.tabled_draw.specs.Standing.{IsSeen, ShowsTexts, StandBetween, StandsAt, StandsFramed, StandsIn, indent_of, inner_height, inner_left, inner_line, inner_top, inner_width, is_amid, is_joined_above, is_joined_around, is_joined_beside, meeting, text_line}
-pub use Rattle.tabled_draw.specs.Texts.{lines_shown, shown_character, shown_line, text_width, widest}
+pub use Rattle.tabled_draw.specs.Texts.{ArePlain, IsLine, after_line, first_line, lines_shown, shown_character, shown_line, text_width, widest}
+pub use Rattle.tabled_draw.specs.Unmerged.{AreUnmerged, IsBetween, level, line_between, marked, unmerged_corner, unmerged_stretch}
 pub use Rattle.tabled_draw.specs.declared.alignment.Alignment.{Alignment}
 pub use Rattle.tabled_draw.specs.declared.pen.Pen.{Pen}
 pub use Rattle.tabled_draw.specs.declared.style.Style.{Style}

@@ -1,5 +1,5 @@
 -- Lists of what a function gives of one number after another, and what is left of the texts in each column.
-use Rattle.tabled_draw.proofs.Common.{[], ◌++◌, ◌+◌, ◌<◌, ◌∙◌, ◌∷◌, ◌≡◌, ◌≤◌, ◌⊎◌, AllByRecursion, Bor, List, add-one, all-append, ap, append-nil, append_assoc, ap₂, arith, bytes_in, cases_lt, each, get_or, get_or-append-add, get_or-map, get_or-set_other, get_or-set_same, get_or_append_left, get_or_push, inl, inr, length, length-append, length-map, map-set, nat_tests, refl, set, suc, sym, zero, ℕ, Bool, IsCutAt, Option, Rectangle, cases_eq, false, left_if, length-set, ◌≢◌}
+use Rattle.tabled_draw.proofs.Common.{AllByRecursion, Bool, Bor, IsCutAt, List, Option, Rectangle, [], add-one, all-append, ap, append-nil, append_assoc, ap₂, arith, bytes_in, cases_eq, cases_lt, each, false, get_or, get_or-append-add, get_or-map, get_or-set_other, get_or-set_same, get_or_append_left, get_or_push, inl, inr, left_if, length, length-append, length-map, length-set, map-set, nat_tests, refl, set, suc, sym, zero, ℕ, ◌++◌, ◌+◌, ◌<◌, ◌∙◌, ◌∷◌, ◌≡◌, ◌≤◌}
 
 pub each-more : {A : Type 0} (f : ℕ → List A) (n : ℕ) → each (n + 1) f ≡ each n f ++ f n
 each-more f n = ap (λ k. each k f) (add-one n)
@@ -18,14 +18,13 @@ get-singles f (suc n) k d h = grind (arith, nat_tests, get_or_append_left, lengt
 
 -- one more at the end of a list of what a function gives
 pub pushed : (f : ℕ → ℕ) (xs : List ℕ) (x n : ℕ) → length xs ≡ n → ((k : ℕ) → k < n → get_or xs k 0 ≡ f k) → x ≡ f n → (m : ℕ) → m < n + 1 → get_or (xs ++ (x ∷ [])) m 0 ≡ f m
-pushed f xs x n long was is m h = by (cases_lt m n)
-  where
-    by : (m < n) ⊎ (n ≤ m) → get_or (xs ++ (x ∷ [])) m 0 ≡ f m
-    by (inl less) = get_or_append_left xs (x ∷ []) 0 m (omega (arith, long, less)) ∙ was m less
-    by (inr end) =
-        let last : m ≡ length xs + 0 = omega (arith, long, end, h) in
-        let same : n ≡ m = omega (arith, end, h) in
-        ap (λ k. get_or (xs ++ (x ∷ [])) k 0) last ∙ get_or-append-add xs (x ∷ []) 0 0 ∙ is ∙ ap f same
+pushed f xs x n long was is m h = elim (cases_lt m n) [
+  | inl less ↦ get_or_append_left xs (x ∷ []) 0 m (omega (arith, long, less)) ∙ was m less
+  | inr end ↦
+      let last : m ≡ length xs + 0 = omega (arith, long, end, h) in
+      let same : n ≡ m = omega (arith, end, h) in
+      ap (λ k. get_or (xs ++ (x ∷ [])) k 0) last ∙ get_or-append-add xs (x ∷ []) 0 0 ∙ is ∙ ap f same
+]
 
 -- a part of a list of parts
 
@@ -35,11 +34,10 @@ pub record Split {A : Type 0} (f : ℕ → List A) (n j : ℕ) : Type 0 where
 
 pub split-each : {A : Type 0} (f : ℕ → List A) (n j : ℕ) → j < n → Split f n j
 split-each f zero j h = absurd (omega arith)
-split-each {A} f (suc n) j h = by (cases_lt j n) (split-each f n j)
-  where
-    by : (j < n) ⊎ (n ≤ j) → (j < n → Split f n j) → Split f (suc n) j
-    by (inl less) go = let s = go less in record { rest = s.rest ++ f n; is = ap (λ xs. xs ++ f n) s.is ∙ append_assoc (each j f) (f j ++ s.rest) (f n) ∙ ap (λ xs. each j f ++ xs) (append_assoc (f j) s.rest (f n)) }
-    by (inr more) go = let same : n ≡ j = omega arith in record { rest = []; is = ap (λ k. each k f ++ f k) same ∙ ap (λ xs. each j f ++ xs) (sym (append-nil (f j))) }
+split-each {A} f (suc n) j h = elim (cases_lt j n) [
+  | inl less ↦ let s = split-each f n j less in record { rest = s.rest ++ f n; is = ap (λ xs. xs ++ f n) s.is ∙ append_assoc (each j f) (f j ++ s.rest) (f n) ∙ ap (λ xs. each j f ++ xs) (append_assoc (f j) s.rest (f n)) }
+  | inr more ↦ let same : n ≡ j = omega arith in record { rest = []; is = ap (λ k. each k f ++ f k) same ∙ ap (λ xs. each j f ++ xs) (sym (append-nil (f j))) }
+]
 
 pub all-each : {A : Type 0} (P : A → Type 0) (f : ℕ → List A) (k : ℕ) → ((i : ℕ) → i < k → AllByRecursion P (f i)) → AllByRecursion P (each k f)
 all-each P f zero all = tt
@@ -63,11 +61,13 @@ cut-set j a rs x less is = record {
 }
 
 pub changed-at : (f : ℕ → List ℕ) (old : List (List ℕ)) (rs new : List (Bor (List ℕ))) (j : ℕ) (apart : Bool) (a : Option Rectangle) → Changed f old (bytes_in rs) j → IsCutAt j apart a rs new → left_if j apart a (get_or (bytes_in rs) j []) ≡ f j → Changed f old (bytes_in new) (j + 1)
-changed-at f old rs new j apart a was cut is = record { done = λ k less. by k less (cases_eq k j); left = λ k more. cut.others k (λ same. omega (arith, more, same)) ∙ was.left k (omega (arith, more)) }
-  where
-    by : (k : ℕ) → k < j + 1 → (k ≡ j) ⊎ (k ≢ j) → get_or (bytes_in new) k [] ≡ f k
-    by k less (inl same) = ap (λ i. get_or (bytes_in new) i []) same ∙ cut.here ∙ is ∙ ap f (sym same)
-    by k less (inr other) = cut.others k other ∙ was.done k (omega (arith, less, other))
+changed-at f old rs new j apart a was cut is = record {
+  done = λ k less. elim (cases_eq k j) [
+    | inl same ↦ ap (λ i. get_or (bytes_in new) i []) same ∙ cut.here ∙ is ∙ ap f (sym same)
+    | inr other ↦ cut.others k other ∙ was.done k (omega (arith, less, other))
+  ];
+  left = λ k more. cut.others k (λ same. omega (arith, more, same)) ∙ was.left k (omega (arith, more));
+}
 
 pub text-in : (rs : List (Bor (List ℕ))) (j : ℕ) (x : Bor (List ℕ)) → j < length rs → x ≡ get_or rs j x → x.now ≡ get_or (bytes_in rs) j []
 text-in rs j x less is = ap (λ (r : Bor (List ℕ)). r.now) is ∙ sym (get_or-map (λ (r : Bor (List ℕ)). r.now) rs j x [] less)

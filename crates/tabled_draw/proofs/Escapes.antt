@@ -4,7 +4,7 @@ use Rattle.std.proofs.lemmas.Fmt.{IsAscii-decimal}
 use Rattle.std.proofs.lemmas.Str.{encodes-IsAscii}
 use Rattle.std.specs.Fmt.{decimal}
 use Rattle.std.specs.Prelude.{Err, Ok, OnOk, Result, chars, codes, is_ok}
-use Rattle.tabled_draw.proofs.Common.{[], AllByRecursion, Grid, IsUtf8, List, Position, Rectangle, ap, ap₂, append-nil, append_assoc, chars-nil, chars_past_char, cond, encode_ascii, encode_utf8, encode_utf8_all, encodes-append, false, refl, sym, true, ℕ, ◌++◌, ◌<◌, ◌∙◌, ◌∷◌, ◌≡◌, ◌≢◌, ne_eqb}
+use Rattle.tabled_draw.proofs.Common.{AllByRecursion, Grid, IsUtf8, List, Position, Rectangle, [], ap, append-nil, append_assoc, ap₂, chars-nil, chars_past_char, cond, encode_ascii, encode_utf8, encode_utf8_all, encodes-append, false, ne_eqb, refl, sym, true, ℕ, ◌++◌, ◌<◌, ◌∙◌, ◌∷◌, ◌≡◌, ◌≢◌}
 use Rattle.tabled_grid.specs.Anchors.{is_hidden_in}
 use Rattle.tabled_draw.specs.Markdown.{cell_apart, escape, escaped, escaped_behind, is_markup, is_numbered}
 

@@ -1,5 +1,5 @@
 -- The picture of one table, computed.
-use Rattle.tabled_draw.proofs.Common.{[], ◌∷◌, ◌≡◌, Grid, List, Rectangle, picture, place, rectangle, refl, sized, with_newlines, ℕ}
+use Rattle.tabled_draw.proofs.Common.{Grid, List, Rectangle, [], picture, place, rectangle, refl, sized, with_newlines, ℕ, ◌∷◌, ◌≡◌}
 use Rattle.std.specs.Prelude.{codes}
 use Rattle.tabled_draw.specs.Owners.{owner}
 use Rattle.tabled_draw.specs.Sizes.{sizes}

@@ -1,7 +1,7 @@
 -- The characters of styles are one column wide, and no control characters: computed.
-use Rattle.tabled_draw.proofs.Common.{[], ◌&&◌, ◌==◌, ◌||◌, ◌∙◌, ◌∷◌, ◌≡◌, ◌<◌, ◌⊎◌, AllByRecursion, Bool, IsFine, IsFineMark, List, Style, ap, false, inl, inr, length, map, nat_le, nat_lt, not, refl, replicate, true, ℕ}
+use Rattle.tabled_draw.proofs.Common.{AllByRecursion, Bool, IsFine, IsFineMark, List, Style, [], ap, false, inl, inr, length, map, nat_le, nat_lt, not, refl, replicate, true, ℕ, ◌&&◌, ◌==◌, ◌||◌, ◌∙◌, ◌∷◌, ◌≡◌, false≢true}
 use Rattle.std.proofs.lemmas.Bool.{and_parts, leb-true, ltb-true, or_cases}
-use Rattle.tabled_draw.proofs.Common.{eq-eqb, false≢true, sym}
+use Rattle.tabled_draw.proofs.Common.{eq-eqb, sym}
 use Rattle.tabled_draw.specs.declared.style.TheConstants.Style.{ASCII, ASCII_ROUNDED, BLANK, DOTS, EMPTY, EXTENDED, MARKDOWN, MODERN, PSQL, RE_STRUCTURED_TEXT, ROUNDED, SHARP}
 use Rattle.unicode_width.proofs.Computing.{unicode_width}
 use Rattle.unicode_width.specs.Width.{alone, plain}
@@ -24,13 +24,9 @@ fine-mark c wide t =
       plain = record {
         above = leb-true 0x20 c first.0;
         no_delete = λ e. false≢true (sym (ap not (eq-eqb c 0x7F e)) ∙ second.0);
-        outside = by (or_cases (nat_lt c 0x80) (nat_lt 0x9F c) second.1);
+        outside = elim (or_cases (nat_lt c 0x80) (nat_lt 0x9F c) second.1) [ inl t ↦ inl (ltb-true c 0x80 t) | inr t ↦ inr (ltb-true 0x9F c t) ];
       };
     }
-  where
-    by : (nat_lt c 0x80 ≡ true) ⊎ (nat_lt 0x9F c ≡ true) → (c < 0x80) ⊎ (0x9F < c)
-    by (inl t) = inl (ltb-true c 0x80 t)
-    by (inr t) = inr (ltb-true 0x9F c t)
 
 -- the first of a list, and those after it
 abbrev first_of : List Alone → Alone

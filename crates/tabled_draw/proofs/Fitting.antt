@@ -1,5 +1,5 @@
 -- Merged cells that fit a table, and those that are kept of any.
-use Rattle.tabled_draw.proofs.Common.{◌∙◌, ◌≡◌, Alignment, Fits, Grid, HoldsOfPictures, List, Rectangle, SpanMap, Style, ap, ap₂, fitting, keep_fitting, picture_bytes, rectangles, rectangles-map_of, rectangles_anchors, subst, sym, ℕ}
+use Rattle.tabled_draw.proofs.Common.{Alignment, Fits, Grid, HoldsOfPictures, List, Plan, Rectangle, SpanMap, Style, ap, ap₂, bytes_of_lines, fitting, keep_fitting, picture, plan_of, rectangles, rectangles-map_of, rectangles_anchors, subst, sym, ℕ, ◌∙◌, ◌≡◌}
 use Rattle.tabled_draw.proofs.Owned.{LieWell, fits-well}
 use Rattle.tabled_draw.specs.Picture.{drawn_with}
 use Rattle.tabled_grid.proofs.Fitting.{anchors-fitting, keep_fitting-all, keep_fitting-fits}
@@ -12,10 +12,10 @@ pub kept-well : (m : SpanMap) (rows columns : ℕ) → LieWell rows columns (fit
 kept-well m rows columns = subst (λ (es : List Rectangle). LieWell rows columns es) (kept-rectangles m rows columns) (fits-well (keep_fitting rows columns m) rows columns (keep_fitting-fits rows columns m))
 
 -- what holds where merged cells of a list lie well
-pub holds : (Says : Style → List Alignment → Grid (List ℕ) → List Rectangle → Type 0) → ((style : Style) (aligns : List Alignment) (g : Grid (List ℕ)) (es : List Rectangle) → LieWell g.rows g.columns es → Says style aligns g es) → HoldsOfPictures Says
+pub holds : (Says : Plan → List Alignment → Type 0) → ((plan : Plan) (aligns : List Alignment) → LieWell plan.grid.rows plan.grid.columns plan.merged → Says plan aligns) → HoldsOfPictures Says
 holds Says each = record {
-  where_all_fit = λ style aligns g m fits. each style aligns g (rectangles m) (fits-well m g.rows g.columns fits);
-  of_drawn = λ style aligns g m. each style aligns g (fitting g.rows g.columns (rectangles m)) (kept-well m g.rows g.columns);
+  where_all_fit = λ style aligns g m fits. each (plan_of style g (rectangles m)) aligns (fits-well m g.rows g.columns fits);
+  of_drawn = λ style aligns g m. each (plan_of style g (fitting g.rows g.columns (rectangles m))) aligns (kept-well m g.rows g.columns);
 }
 
 -- ---- what is drawn
@@ -23,13 +23,13 @@ holds Says each = record {
 fitting-all : (m : SpanMap) (rows columns : ℕ) → Fits m rows columns → fitting rows columns (rectangles m) ≡ rectangles m
 fitting-all m rows columns fits = sym (kept-rectangles m rows columns) ∙ ap rectangles (keep_fitting-all rows columns m fits)
 
-pub drawn-all : (style : Style) (aligns : List Alignment) (g : Grid (List ℕ)) (m : SpanMap) → Fits m g.rows g.columns → drawn_with style aligns g m ≡ picture_bytes style aligns g (rectangles m)
+pub drawn-all : (style : Style) (aligns : List Alignment) (g : Grid (List ℕ)) (m : SpanMap) → Fits m g.rows g.columns → drawn_with style aligns g m ≡ bytes_of_lines (picture style aligns g (rectangles m))
 unfolding drawn_with
-drawn-all style aligns g m fits = ap (picture_bytes style aligns g) (fitting-all m g.rows g.columns fits)
+drawn-all style aligns g m fits = ap (λ es. bytes_of_lines (picture style aligns g es)) (fitting-all m g.rows g.columns fits)
 
 pub drawn-kept : (style : Style) (aligns : List Alignment) (g : Grid (List ℕ)) (m : SpanMap) → drawn_with style aligns g m ≡ drawn_with style aligns g (keep_fitting g.rows g.columns m)
 unfolding drawn_with
-drawn-kept style aligns g m = ap (picture_bytes style aligns g) (sym (kept-rectangles m g.rows g.columns) ∙ sym (fitting-all (keep_fitting g.rows g.columns m) g.rows g.columns (keep_fitting-fits g.rows g.columns m)))
+drawn-kept style aligns g m = ap (λ es. bytes_of_lines (picture style aligns g es)) (sym (kept-rectangles m g.rows g.columns) ∙ sym (fitting-all (keep_fitting g.rows g.columns m) g.rows g.columns (keep_fitting-fits g.rows g.columns m)))
 
 -- ---- tables that are laid out
 
@@ -38,6 +38,6 @@ module _ (g : Grid (List ℕ)) (m kept : SpanMap) (rows columns : ℕ) (is_rows 
   fits-of = rw (is, is_rows, is_columns) (keep_fitting-fits g.rows g.columns m)
 
   -- the bytes are those of the merged cells that fit
-  pub bytes-drawn : (style : Style) (aligns : List Alignment) → picture_bytes style aligns g (rectangles kept) ≡ drawn_with style aligns g m
+  pub bytes-drawn : (style : Style) (aligns : List Alignment) → bytes_of_lines (picture style aligns g (rectangles kept)) ≡ drawn_with style aligns g m
   unfolding drawn_with
-  bytes-drawn style aligns = ap (λ k. picture_bytes style aligns g (rectangles k)) (is ∙ ap₂ (λ r c. keep_fitting r c m) is_rows is_columns) ∙ ap (picture_bytes style aligns g) (kept-rectangles m g.rows g.columns)
+  bytes-drawn style aligns = ap (λ k. bytes_of_lines (picture style aligns g (rectangles k))) (is ∙ ap₂ (λ r c. keep_fitting r c m) is_rows is_columns) ∙ ap (λ es. bytes_of_lines (picture style aligns g es)) (kept-rectangles m g.rows g.columns)

@@ -1,14 +1,13 @@
 -- A line of a picture, from its left edge to its right one.
-use Rattle.tabled_draw.proofs.Common.{cond_both, Alignment, AllByRecursion, Arms, Bool, Columns, Grid, IsFine, IsFineMark, List, None, Option, Rectangle, Rows, Some, StandsIn, Style, [], add-one, add-zero, aligned, alignment_in, ap, append-nil, append_assoc, ap₂, are_none, arith, arms, border, cases_Bool, cases_lt, column_between, cond, cond-false, cond-true, differ, each, edge_between, eq-eqb, eqb, false, false_from_ne_true, false≢true, get_or, indent, inl, inr, left, length, length-replicate, lines_shown, mark, ne_eqb, none-some, picture_line, place, refl, replicate, room, shows, shows_in, subst, suc, sym, text_of_cell, text_width, top, true, widest, widths, zero, ℕ, ◌++◌, ◌+◌, ◌-◌, ◌<◌, ◌∙◌, ◌∷◌, ◌≡◌, ◌≢◌, ◌≤◌, ◌⊎◌}
+use Rattle.tabled_draw.proofs.Common.{Alignment, AllByRecursion, Arms, Bool, Columns, IsFine, IsFineMark, List, None, Option, Plan, Rectangle, Some, StandsIn, Style, [], add-one, add-zero, aligned, alignment_in, ap, append-nil, append_assoc, ap₂, are_none, arith, arms, cases_Bool, cases_lt, column_at, cond, cond-false, cond-true, cond_both, differ, each, edge_at, eq-eqb, eqb, false, false_from_ne_true, get_or, indent, inl, inr, left, length, length-replicate, line_at, line_height, line_width, lines_shown, mark, ne_eqb, none-some, owner_at, place, refl, replicate, room, shows, shows_in, subst, suc, sym, text_of_cell, text_width, top, true, widest, widths, zero, ℕ, ◌++◌, ◌+◌, ◌-◌, ◌<◌, ◌∙◌, ◌∷◌, ◌≡◌, ◌≢◌, ◌≤◌, ◌⊎◌, false≢true}
 use Rattle.std.proofs.lemmas.Bool.{true_from_ne_false}
 use Rattle.tabled_draw.specs.Borders.{number}
-use Rattle.tabled_draw.proofs.Arms.{differ-self, none-one, none-parts}
+use Rattle.tabled_draw.proofs.Arms.{differ-none, differ-self, none-one, none-parts}
 use Rattle.tabled_draw.specs.declared.alignment.Alignment.TheVariants.{Left, Center, Right}
 use Rattle.tabled_draw.proofs.Each.{each-more, split-each}
 use Rattle.tabled_draw.proofs.Owned.{LieWell, Owns, owner-both, owner-inside, owner-left, owner-owns, owner-some}
 use Rattle.tabled_draw.proofs.Shares.{room-end}
 use Rattle.tabled_draw.proofs.Sizes.{line-least, room-enough, start-next}
-use Rattle.tabled_draw.specs.Owners.{owner}
 use Rattle.tabled_draw.proofs.Widths.{IsPlain, all-marks, columns-after_blanks, columns-append, columns-blanks, columns-nil, columns-replicate, plain-after_blanks, plain-append, plain-blanks, plain-marks, plain-nil}
 use Rattle.unicode_width.proofs.Computing.{unicode_width}
 
@@ -75,25 +74,25 @@ pub record Framed (row : List ℕ) (columns before behind : ℕ) (text : List �
   pub last_marks : AllByRecursion IsFineMark last
   pub stands : StandsIn row columns (first ++ (text ++ last))
 
-module _ (style : Style) (aligns : List Alignment) (g : Grid (List ℕ)) (es : List Rectangle) (fine : IsFine style) (well : LieWell g.rows g.columns es) where
+module _ (plan : Plan) (aligns : List Alignment) (fine : IsFine plan.style) (well : LieWell plan.grid.rows plan.grid.columns plan.merged) where
   -- what an owner shows is as wide as its room, with a blank at both sides
-  shows-wide : (n i j : ℕ) (o : Rectangle) → owner g.rows g.columns es i j ≡ Some o → text_width (shows style aligns g es n o) ≡ room Columns (border Columns style g) (widths style g es) o.first.col o.size.width + 2
+  shows-wide : (n i j : ℕ) (o : Rectangle) → owner_at plan i j ≡ Some o → text_width (shows plan aligns n o) ≡ room Columns (line_width plan) (widths plan) o.first.col o.size.width + 2
   shows-wide n i j o e =
-      let s = owner-some g.rows g.columns es i j o e in
-      let lines = lines_shown (text_of_cell g o.first) in
-      let k = n - top style g es o.first.row - border Rows style g o.first.row in
+      let s = owner-some e in
+      let lines = lines_shown (text_of_cell plan.grid o.first) in
+      let k = n - top plan o.first.row - line_height plan o.first.row in
       let text = get_or lines k [] in
-      let wide = room Columns (border Columns style g) (widths style g es) o.first.col o.size.width in
-      let enough : widest (text_of_cell g o.first) ≤ wide = rw s.is (room-enough Columns style g es well (place s.row s.col) s.below s.right) in
-      let within : text_width text ≤ widest (text_of_cell g o.first) = line-least lines 0 k in
+      let wide = room Columns (line_width plan) (widths plan) o.first.col o.size.width in
+      let enough : widest (text_of_cell plan.grid o.first) ≤ wide = rw s.is (room-enough Columns plan.style plan.grid plan.merged well (place s.row s.col) s.below s.right) in
+      let within : text_width text ≤ widest (text_of_cell plan.grid o.first) = line-least lines 0 k in
       aligned-wide (alignment_in aligns o.first.col) wide text (omega arith)
 
-  module _ (n u d : ℕ) (line : IsLineOf g.rows u d) where
+  module _ (n u d : ℕ) (line : IsLineOf plan.grid.rows u d) where
     abbrev up : ℕ → Option Rectangle
-    up j = owner g.rows g.columns es u j
+    up j = owner_at plan u j
 
     abbrev down : ℕ → Option Rectangle
-    down j = owner g.rows g.columns es d j
+    down j = owner_at plan d j
 
     abbrev meeting_at : ℕ → Arms
     meeting_at j = arms (up j) (up (j + 1)) (down j) (down (j + 1))
@@ -103,250 +102,244 @@ module _ (style : Style) (aligns : List Alignment) (g : Grid (List ℕ)) (es : L
     joint j = are_none (meeting_at j)
 
     abbrev mark_at : ℕ → ℕ
-    mark_at j = mark style (eqb u d) (meeting_at j)
+    mark_at j = mark plan.style (eqb u d) (meeting_at j)
 
-    abbrev edge_at : ℕ → List ℕ
-    edge_at j = edge_between style g es u d j
+    abbrev edge_of : ℕ → List ℕ
+    edge_of j = edge_at plan u d j
 
-    abbrev column_at : ℕ → List ℕ
-    column_at j = column_between style aligns g es n u d j
+    abbrev column_of : ℕ → List ℕ
+    column_of j = column_at plan aligns n u d j
 
     abbrev part : ℕ → List ℕ
-    part j = edge_at j ++ column_at j
+    part j = edge_of j ++ column_of j
 
     -- in a column of the table one of the two places has an owner
-    some-one : (k : ℕ) → 0 < k → k ≤ g.columns → up k ≡ None → down k ≡ None → ⊥
-    some-one k low high none none' = by (cases_lt 0 u)
+    some-one : (k : ℕ) → 0 < k → k ≤ plan.grid.columns → up k ≡ None → down k ≡ None → ⊥
+    some-one k low high none none' = elim (cases_lt 0 u) [
+      | inl less ↦ inside u less line.high none
+      | inr first ↦ elim line.next [ inl same ↦ omega (arith, first, same, line.low) | inr more ↦ inside d line.low (omega (arith, first, more, line.some)) none' ]
+    ]
       where
-        inside : (i : ℕ) → 0 < i → i ≤ g.rows → owner g.rows g.columns es i k ≡ None → ⊥
+        inside : (i : ℕ) → 0 < i → i ≤ plan.grid.rows → owner_at plan i k ≡ None → ⊥
         inside i some least is =
             let row : i ≡ i - 1 + 1 = omega (arith, some) in
             let col : k ≡ k - 1 + 1 = omega (arith, low) in
-            none-some _ (sym is ∙ ap₂ (owner g.rows g.columns es) row col ∙ owner-inside g.rows g.columns es (i - 1) (k - 1) (omega (arith, some, least)) (omega (arith, low, high)))
-
-        by_next : u ≤ 0 → (d ≡ u) ⊎ (d ≡ u + 1) → ⊥
-        by_next first (inl same) = omega (arith, first, same, line.low)
-        by_next first (inr more) = inside d line.low (omega (arith, first, more, line.some)) none'
-
-        by : (0 < u) ⊎ (u ≤ 0) → ⊥
-        by (inl less) = inside u less line.high none
-        by (inr first) = by_next first line.next
+            none-some _ (sym is ∙ ap₂ (owner_at plan) row col ∙ owner-inside plan.grid.rows plan.grid.columns plan.merged (i - 1) (k - 1) (omega (arith, some, least)) (omega (arith, low, high)))
 
     joint-from : (j : ℕ) (o : Rectangle) → up j ≡ Some o → down j ≡ Some o → up (j + 1) ≡ Some o → down (j + 1) ≡ Some o → joint j ≡ true
     joint-from j o e f e' f' = none-one (up j) (up (j + 1)) (down j) (down (j + 1)) o e e' f f'
 
     -- one owner is all round where no arm is
-    one-round : (j : ℕ) → j ≤ g.columns → 0 < g.columns → joint j ≡ true → (o : Rectangle) × (up j ≡ Some o) × (up (j + 1) ≡ Some o) × (down j ≡ Some o) × (down (j + 1) ≡ Some o)
+    one-round : (j : ℕ) → j ≤ plan.grid.columns → 0 < plan.grid.columns → joint j ≡ true → (o : Rectangle) × (up j ≡ Some o) × (up (j + 1) ≡ Some o) × (down j ≡ Some o) × (down (j + 1) ≡ Some o)
     one-round j high wide t =
         let parts = none-parts (meeting_at j) t in
-        let a = owner-both g.rows g.columns es well u j u (j + 1) parts.0 (λ x y. some-two x y parts) in
-        let b = owner-both g.rows g.columns es well u j d j parts.3 (λ x y. none-some a.0 (sym x ∙ a.1)) in
-        let c = owner-both g.rows g.columns es well d j d (j + 1) parts.2 (λ x y. none-some b.0 (sym x ∙ b.2)) in
+        let a = owner-both well u j u (j + 1) parts.0 (λ x y. some-two x y parts) in
+        let b = owner-both well u j d j parts.3 (λ x y. none-some a.0 (sym x ∙ a.1)) in
+        let c = owner-both well d j d (j + 1) parts.2 (λ x y. none-some b.0 (sym x ∙ b.2)) in
         let ab : Some a.0 ≡ Some b.0 = sym a.1 ∙ b.1 in
         let bc : Some b.0 ≡ Some c.0 = sym b.2 ∙ c.1 in
         (a.0, a.1, a.2, b.2 ∙ sym ab, c.2 ∙ sym bc ∙ sym ab)
       where
         below : (k : ℕ) → differ (up k) (down k) ≡ false → up k ≡ None → down k ≡ None
-        below k same none = by (down k) (sym (ap (λ a. differ a (down k)) none) ∙ same)
-          where
-            by : (b : Option Rectangle) → differ None b ≡ false → b ≡ None
-            by None h = refl
-            by (Some q) h = absurd (false≢true (sym h))
+        below k same none = differ-none (down k) (sym (ap (λ a. differ a (down k)) none) ∙ same)
 
         some-two : up j ≡ None → up (j + 1) ≡ None → ((differ (up j) (up (j + 1)) ≡ false) × (differ (up (j + 1)) (down (j + 1)) ≡ false) × (differ (down j) (down (j + 1)) ≡ false) × (differ (up j) (down j) ≡ false)) → ⊥
-        some-two x y parts = by (cases_lt j g.columns)
-          where
-            by : (j < g.columns) ⊎ (g.columns ≤ j) → ⊥
-            by (inl less) = some-one (j + 1) (omega arith) (omega (arith, less)) y (below (j + 1) parts.1 y)
-            by (inr end) = some-one j (omega (arith, end, wide)) high x (below j parts.3 x)
+        some-two x y parts = elim (cases_lt j plan.grid.columns) [
+          | inl less ↦ some-one (j + 1) (omega arith) (omega (arith, less)) y (below (j + 1) parts.1 y)
+          | inr end ↦ some-one j (omega (arith, end, wide)) high x (below j parts.3 x)
+        ]
 
     -- where no owner is all round an edge, an arm is
-    not-joint : (j : ℕ) → j ≤ g.columns → 0 < g.columns → ((o : Rectangle) → up j ≡ Some o → up (j + 1) ≡ Some o → down j ≡ Some o → down (j + 1) ≡ Some o → ⊥) → joint j ≡ false
+    not-joint : (j : ℕ) → j ≤ plan.grid.columns → 0 < plan.grid.columns → ((o : Rectangle) → up j ≡ Some o → up (j + 1) ≡ Some o → down j ≡ Some o → down (j + 1) ≡ Some o → ⊥) → joint j ≡ false
     not-joint j high wide never = false_from_ne_true (joint j) (λ t. (let one = one-round j high wide t in never one.0 one.1 one.2 one.3 one.4))
 
-    edge-none : (j : ℕ) → joint j ≡ true → edge_at j ≡ []
-    edge-none j t = cond-true (joint j) [] (replicate (border Columns style g j) (mark_at j)) t
+    edge-none : (j : ℕ) → joint j ≡ true → edge_of j ≡ []
+    edge-none j t = cond-true (joint j) [] (replicate (line_width plan j) (mark_at j)) t
 
-    edge-is : (j : ℕ) → joint j ≡ false → edge_at j ≡ replicate (border Columns style g j) (mark_at j)
-    edge-is j f = cond-false (joint j) [] (replicate (border Columns style g j) (mark_at j)) f
+    edge-is : (j : ℕ) → joint j ≡ false → edge_of j ≡ replicate (line_width plan j) (mark_at j)
+    edge-is j f = cond-false (joint j) [] (replicate (line_width plan j) (mark_at j)) f
 
-    edge-wide : (j : ℕ) → joint j ≡ false → text_width (edge_at j) ≡ border Columns style g j
-    edge-wide j f = ap text_width (edge-is j f) ∙ columns-replicate (border Columns style g j) (mark_at j) (mark-fine style fine (eqb u d) (meeting_at j))
+    edge-wide : (j : ℕ) → joint j ≡ false → text_width (edge_of j) ≡ line_width plan j
+    edge-wide j f = ap text_width (edge-is j f) ∙ columns-replicate (line_width plan j) (mark_at j) (mark-fine plan.style fine (eqb u d) (meeting_at j))
 
-    edge-plain : (j : ℕ) → IsPlain (edge_at j)
+    edge-plain : (j : ℕ) → IsPlain (edge_of j)
     edge-plain j =
-        let marks = replicate (border Columns style g j) (mark_at j) in
-        cond_both (joint j) [] marks IsPlain (λ none. plain-nil) (λ some. plain-marks marks (all-marks (border Columns style g j) (mark_at j) (mark-fine style fine (eqb u d) (meeting_at j))))
+        let marks = replicate (line_width plan j) (mark_at j) in
+        cond_both (joint j) [] marks IsPlain (λ none. plain-nil) (λ some. plain-marks marks (all-marks (line_width plan j) (mark_at j) (mark-fine plan.style fine (eqb u d) (meeting_at j))))
 
-    column-plain : (j : ℕ) → IsPlain (column_at j)
+    column-plain : (j : ℕ) → IsPlain (column_of j)
     column-plain j =
-        let level = replicate (get_or (widths style g es) j 0 + 2) style.horizontal in
-        cond_both (differ (up (j + 1)) (down (j + 1))) level (shows_in style aligns g es n j (up (j + 1))) IsPlain
-        (λ apart. plain-marks level (all-marks (get_or (widths style g es) j 0 + 2) style.horizontal (level-fine style fine)))
+        let level = replicate (get_or (widths plan) j 0 + 2) plan.style.horizontal in
+        cond_both (differ (up (j + 1)) (down (j + 1))) level (shows_in plan aligns n j (up (j + 1))) IsPlain
+        (λ apart. plain-marks level (all-marks (get_or (widths plan) j 0 + 2) plan.style.horizontal (level-fine plan.style fine)))
         (λ one. inside (up (j + 1)))
       where
-        inside : (p : Option Rectangle) → IsPlain (shows_in style aligns g es n j p)
+        inside : (p : Option Rectangle) → IsPlain (shows_in plan aligns n j p)
         inside None = plain-nil
-        inside (Some o) = cond_both (eqb o.first.col j) (shows style aligns g es n o) [] IsPlain
-            (λ begins. aligned-plain (alignment_in aligns o.first.col) (room Columns (border Columns style g) (widths style g es) o.first.col o.size.width) (get_or (lines_shown (text_of_cell g o.first)) (n - top style g es o.first.row - border Rows style g o.first.row) []))
+        inside (Some o) = cond_both (eqb o.first.col j) (shows plan aligns n o) [] IsPlain
+            (λ begins. aligned-plain (alignment_in aligns o.first.col) (room Columns (line_width plan) (widths plan) o.first.col o.size.width) (get_or (lines_shown (text_of_cell plan.grid o.first)) (n - top plan o.first.row - line_height plan o.first.row) []))
             (λ passes. plain-nil)
 
     part-plain : (j : ℕ) → IsPlain (part j)
-    part-plain j = plain-append (edge_at j) (column_at j) (edge-plain j) (column-plain j)
+    part-plain j = plain-append (edge_of j) (column_of j) (edge-plain j) (column-plain j)
 
     -- a border between two owners
-    column-apart : (j : ℕ) → differ (up (j + 1)) (down (j + 1)) ≡ true → column_at j ≡ replicate (get_or (widths style g es) j 0 + 2) style.horizontal
-    column-apart j t = cond-true (differ (up (j + 1)) (down (j + 1))) (replicate (get_or (widths style g es) j 0 + 2) style.horizontal) (shows_in style aligns g es n j (up (j + 1))) t
+    column-apart : (j : ℕ) → differ (up (j + 1)) (down (j + 1)) ≡ true → column_of j ≡ replicate (get_or (widths plan) j 0 + 2) plan.style.horizontal
+    column-apart j t = cond-true (differ (up (j + 1)) (down (j + 1))) (replicate (get_or (widths plan) j 0 + 2) plan.style.horizontal) (shows_in plan aligns n j (up (j + 1))) t
 
-    column-one : (j : ℕ) (o : Rectangle) → up (j + 1) ≡ Some o → down (j + 1) ≡ Some o → column_at j ≡ cond (eqb o.first.col j) (shows style aligns g es n o) []
-    column-one j o e f = cond-false (differ (up (j + 1)) (down (j + 1))) (replicate (get_or (widths style g es) j 0 + 2) style.horizontal) (shows_in style aligns g es n j (up (j + 1))) (ap₂ differ e f ∙ differ-self (Some o)) ∙ ap (shows_in style aligns g es n j) e
+    column-one : (j : ℕ) (o : Rectangle) → up (j + 1) ≡ Some o → down (j + 1) ≡ Some o → column_of j ≡ cond (eqb o.first.col j) (shows plan aligns n o) []
+    column-one j o e f = cond-false (differ (up (j + 1)) (down (j + 1))) (replicate (get_or (widths plan) j 0 + 2) plan.style.horizontal) (shows_in plan aligns n j (up (j + 1))) (ap₂ differ e f ∙ differ-self (Some o)) ∙ ap (shows_in plan aligns n j) e
 
-    column-shows : (j : ℕ) (o : Rectangle) → up (j + 1) ≡ Some o → down (j + 1) ≡ Some o → o.first.col ≡ j → column_at j ≡ shows style aligns g es n o
-    column-shows j o e f first = column-one j o e f ∙ cond-true _ (shows style aligns g es n o) [] (eq-eqb o.first.col j first)
+    column-shows : (j : ℕ) (o : Rectangle) → up (j + 1) ≡ Some o → down (j + 1) ≡ Some o → o.first.col ≡ j → column_of j ≡ shows plan aligns n o
+    column-shows j o e f first = column-one j o e f ∙ cond-true _ (shows plan aligns n o) [] (eq-eqb o.first.col j first)
 
-    column-none : (j : ℕ) (o : Rectangle) → up (j + 1) ≡ Some o → down (j + 1) ≡ Some o → o.first.col ≢ j → column_at j ≡ []
-    column-none j o e f later = column-one j o e f ∙ cond-false _ (shows style aligns g es n o) [] (ne_eqb o.first.col j later)
+    column-none : (j : ℕ) (o : Rectangle) → up (j + 1) ≡ Some o → down (j + 1) ≡ Some o → o.first.col ≢ j → column_of j ≡ []
+    column-none j o e f later = column-one j o e f ∙ cond-false _ (shows plan aligns n o) [] (ne_eqb o.first.col j later)
 
     -- how far a line has come: to an edge, or to the right edge of what it shows
     data Reached (j w : ℕ) : Type 0 where
-      edge : joint j ≡ false → w ≡ left style g es j → Reached j w
-      inside : (o : Rectangle) → up j ≡ Some o → down j ≡ Some o → up (j + 1) ≡ Some o → down (j + 1) ≡ Some o → w ≡ left style g es (o.first.col + o.size.width) → Reached j w
+      edge : joint j ≡ false → w ≡ left plan j → Reached j w
+      inside : (o : Rectangle) → up j ≡ Some o → down j ≡ Some o → up (j + 1) ≡ Some o → down (j + 1) ≡ Some o → w ≡ left plan (o.first.col + o.size.width) → Reached j w
 
     -- past a column that one owner has above and below
-    past : (j w : ℕ) (o : Rectangle) → up (j + 1) ≡ Some o → down (j + 1) ≡ Some o → w ≡ left style g es (o.first.col + o.size.width) → Reached (j + 1) w
-    past j w o e f is = by (owner-owns g.rows g.columns es well u (j + 1) o e) (owner-owns g.rows g.columns es well d (j + 1) o f) (cases_lt (j + 1) (o.first.col + o.size.width))
+    past : (j w : ℕ) (o : Rectangle) → up (j + 1) ≡ Some o → down (j + 1) ≡ Some o → w ≡ left plan (o.first.col + o.size.width) → Reached (j + 1) w
+    past j w o e f is =
+        let a = owner-owns well e in
+        let b = owner-owns well f in
+        elim (cases_lt (j + 1) (o.first.col + o.size.width)) [
+          | inl more ↦ inside o e f (a.all u (j + 1 + 1) a.top a.bottom (omega (arith, a.left)) (omega arith)) (b.all d (j + 1 + 1) b.top b.bottom (omega (arith, b.left)) (omega arith)) is
+          | inr last ↦
+              let same : o.first.col + o.size.width ≡ j + 1 = omega (arith, a.right) in
+              edge (ends same (omega (arith, a.lies.right, same))) (is ∙ ap (left plan) same)
+        ]
       where
-        ends : o.first.col + o.size.width ≡ j + 1 → j + 1 ≤ g.columns → joint (j + 1) ≡ false
+        ends : o.first.col + o.size.width ≡ j + 1 → j + 1 ≤ plan.grid.columns → joint (j + 1) ≡ false
         ends last within = not-joint (j + 1) within (omega (arith, within)) (λ p at next at' next'. (
-            let far = owner-owns g.rows g.columns es well u (j + 1 + 1) o (next ∙ sym at ∙ e) in
+            let far = owner-owns well (next ∙ sym at ∙ e) in
             omega (arith, far.right)))
 
-        by : Owns g.rows g.columns es u (j + 1) o → Owns g.rows g.columns es d (j + 1) o → (j + 1 < o.first.col + o.size.width) ⊎ (o.first.col + o.size.width ≤ j + 1) → Reached (j + 1) w
-        by a b (inl more) = inside o e f (a.all u (j + 1 + 1) a.top a.bottom (omega (arith, a.left)) (omega arith)) (b.all d (j + 1 + 1) b.top b.bottom (omega (arith, b.left)) (omega arith)) is
-        by a b (inr last) =
-            let same : o.first.col + o.size.width ≡ j + 1 = omega (arith, a.right) in
-            edge (ends same (omega (arith, a.lies.right, same))) (is ∙ ap (left style g es) same)
+    columns-part : (j x y : ℕ) → text_width (edge_of j) ≡ x → text_width (column_of j) ≡ y → text_width (part j) ≡ x + y
+    columns-part j x y e f = columns-append (edge_of j) (column_of j) (column-plain j) ∙ ap₂ (λ x y. x + y) e f
 
-    columns-part : (j x y : ℕ) → text_width (edge_at j) ≡ x → text_width (column_at j) ≡ y → text_width (part j) ≡ x + y
-    columns-part j x y e f = columns-append (edge_at j) (column_at j) (column-plain j) ∙ ap₂ (λ x y. x + y) e f
-
-    more : (j w : ℕ) → j < g.columns → Reached j w → Reached (j + 1) (w + text_width (part j))
+    more : (j w : ℕ) → j < plan.grid.columns → Reached j w → Reached (j + 1) (w + text_width (part j))
     more j w less (inside o e f e' f' is) =
-        let a = owner-owns g.rows g.columns es well u j o e in
+        let a = owner-owns well e in
         let none : text_width (part j) ≡ 0 = columns-part j 0 0 (ap text_width (edge-none j (joint-from j o e f e' f')) ∙ columns-nil) (ap text_width (column-none j o e' f' (λ same. omega (arith, a.left, same))) ∙ columns-nil) in
         past j (w + text_width (part j)) o e' f' (ap (λ x. w + x) none ∙ add-zero w ∙ is)
-    more j w less (edge apart is) = by (cases_Bool (differ (up (j + 1)) (down (j + 1))))
+    more j w less (edge apart is) = past-border (cases_Bool (differ (up (j + 1)) (down (j + 1))))
       where
-        first : text_width (edge_at j) ≡ border Columns style g j
+        first : text_width (edge_of j) ≡ line_width plan j
         first = edge-wide j apart
 
-        by : (differ (up (j + 1)) (down (j + 1)) ≡ true) ⊎ (differ (up (j + 1)) (down (j + 1)) ≡ false) → Reached (j + 1) (w + text_width (part j))
-        by (inl two) =
-            let wide : text_width (part j) ≡ border Columns style g j + (get_or (widths style g es) j 0 + 2) = columns-part j (border Columns style g j) (get_or (widths style g es) j 0 + 2) first (ap text_width (column-apart j two) ∙ columns-replicate (get_or (widths style g es) j 0 + 2) style.horizontal (level-fine style fine)) in
-            let to : left style g es (j + 1) ≡ left style g es j + (border Columns style g j + get_or (widths style g es) j 0 + 2) = start-next Columns style g es j in
+        past-border : (differ (up (j + 1)) (down (j + 1)) ≡ true) ⊎ (differ (up (j + 1)) (down (j + 1)) ≡ false) → Reached (j + 1) (w + text_width (part j))
+        past-border (inl two) =
+            let wide : text_width (part j) ≡ line_width plan j + (get_or (widths plan) j 0 + 2) = columns-part j (line_width plan j) (get_or (widths plan) j 0 + 2) first (ap text_width (column-apart j two) ∙ columns-replicate (get_or (widths plan) j 0 + 2) plan.style.horizontal (level-fine plan.style fine)) in
+            let to : left plan (j + 1) ≡ left plan j + (line_width plan j + get_or (widths plan) j 0 + 2) = start-next Columns plan.style plan.grid plan.merged j in
             edge (not-joint (j + 1) (omega (arith, less)) (omega (arith, less)) (λ o e e' f f'. false≢true (sym (ap₂ differ e f ∙ differ-self (Some o)) ∙ two))) (omega (arith, wide, to, is))
-        by (inr one) =
-            let both = owner-both g.rows g.columns es well u (j + 1) d (j + 1) one (some-one (j + 1) (omega arith) (omega (arith, less))) in
-            at both.0 both.1 both.2 (owner-owns g.rows g.columns es well u (j + 1) both.0 both.1) (owner-owns g.rows g.columns es well d (j + 1) both.0 both.2) (cases_lt both.0.first.col j)
+        past-border (inr one) =
+            let both = owner-both well u (j + 1) d (j + 1) one (some-one (j + 1) (omega arith) (omega (arith, less))) in
+            at both.0 both.1 both.2 (owner-owns well both.1) (owner-owns well both.2) (cases_lt both.0.first.col j)
           where
-            at : (o : Rectangle) → up (j + 1) ≡ Some o → down (j + 1) ≡ Some o → Owns g.rows g.columns es u (j + 1) o → Owns g.rows g.columns es d (j + 1) o → (o.first.col < j) ⊎ (j ≤ o.first.col) → Reached (j + 1) (w + text_width (part j))
+            at : (o : Rectangle) → up (j + 1) ≡ Some o → down (j + 1) ≡ Some o → Owns plan.grid.rows plan.grid.columns plan.merged u (j + 1) o → Owns plan.grid.rows plan.grid.columns plan.merged d (j + 1) o → (o.first.col < j) ⊎ (j ≤ o.first.col) → Reached (j + 1) (w + text_width (part j))
             at o e f a b (inl before) =
                 let x = a.all u j a.top a.bottom before (omega (arith, a.right)) in
                 let y = b.all d j b.top b.bottom before (omega (arith, b.right)) in
                 absurd (false≢true (sym apart ∙ joint-from j o x y e f))
             at o e f a b (inr here) =
                 let col : o.first.col ≡ j = omega (arith, a.left) in
-                let wide : text_width (part j) ≡ border Columns style g j + (room Columns (border Columns style g) (widths style g es) o.first.col o.size.width + 2) = columns-part j (border Columns style g j) _ first (ap text_width (column-shows j o e f col) ∙ shows-wide n u (j + 1) o e) in
-                let to : left style g es (o.first.col + o.size.width) ≡ left style g es o.first.col + (border Columns style g o.first.col + room Columns (border Columns style g) (widths style g es) o.first.col o.size.width + 2) = room-end Columns (border Columns style g) (widths style g es) o.first.col o.size.width a.lies.wide in
-                let same : left style g es o.first.col ≡ left style g es j = ap (left style g es) col in
-                let line : border Columns style g o.first.col ≡ border Columns style g j = ap (border Columns style g) col in
+                let wide : text_width (part j) ≡ line_width plan j + (room Columns (line_width plan) (widths plan) o.first.col o.size.width + 2) = columns-part j (line_width plan j) _ first (ap text_width (column-shows j o e f col) ∙ shows-wide n u (j + 1) o e) in
+                let to : left plan (o.first.col + o.size.width) ≡ left plan o.first.col + (line_width plan o.first.col + room Columns (line_width plan) (widths plan) o.first.col o.size.width + 2) = room-end Columns (line_width plan) (widths plan) o.first.col o.size.width a.lies.wide in
+                let same : left plan o.first.col ≡ left plan j = ap (left plan) col in
+                let line : line_width plan o.first.col ≡ line_width plan j = ap (line_width plan) col in
                 past j (w + text_width (part j)) o e f (omega (arith, wide, to, is, same, line))
 
-    module _ (wide : 0 < g.columns) where
-      reached : (j : ℕ) → j ≤ g.columns → Reached j (text_width (each j part))
-      reached zero h = edge (not-joint 0 (omega arith) wide (λ o e. absurd (none-some o (sym (owner-left g.rows g.columns es u) ∙ e)))) columns-nil
+    module _ (wide : 0 < plan.grid.columns) where
+      reached : (j : ℕ) → j ≤ plan.grid.columns → Reached j (text_width (each j part))
+      reached zero h = edge (not-joint 0 (omega arith) wide (λ o e. absurd (none-some o (sym (owner-left plan.grid.rows plan.grid.columns plan.merged u) ∙ e)))) columns-nil
       reached (suc j) h =
           let go : Reached j (text_width (each j part)) = reached j (omega arith) in
           let next_one : Reached (j + 1) (text_width (each j part) + text_width (part j)) = more j (text_width (each j part)) (omega arith) go in
           subst (λ k. Reached k (text_width (each j part ++ part j))) (add-one j) (subst (λ w. Reached (j + 1) w) (sym (columns-append (each j part) (part j) (part-plain j))) next_one)
 
       -- at the right edge of the table no owner reaches over
-      apart-last : joint g.columns ≡ false
-      apart-last = not-joint g.columns (omega arith) wide (λ o at next at' next'. (let far = owner-owns g.rows g.columns es well u (g.columns + 1) o next in omega (arith, far.right, far.lies.right)))
+      apart-last : joint plan.grid.columns ≡ false
+      apart-last = not-joint plan.grid.columns (omega arith) wide (λ o at next at' next'. (let far = owner-owns well next in omega (arith, far.right, far.lies.right)))
 
       -- where an arm is at an edge, a line has come to that edge
-      reached-edge : (j : ℕ) → j ≤ g.columns → joint j ≡ false → text_width (each j part) ≡ left style g es j
-      reached-edge j h apart = by (reached j h)
-        where
-          by : Reached j (text_width (each j part)) → text_width (each j part) ≡ left style g es j
-          by (edge _ is) = is
-          by (inside o e f e' f' is) = absurd (false≢true (sym apart ∙ joint-from j o e f e' f'))
+      reached-edge : (j : ℕ) → j ≤ plan.grid.columns → joint j ≡ false → text_width (each j part) ≡ left plan j
+      reached-edge j h apart = elim (reached j h) [ edge _ is ↦ is | inside o e f e' f' is ↦ absurd (false≢true (sym apart ∙ joint-from j o e f e' f')) ]
 
-      pub line-wide : text_width (picture_line style aligns g es n u d) ≡ left style g es g.columns + border Columns style g g.columns
-      line-wide = columns-append (each g.columns part) (edge_at g.columns) (edge-plain g.columns) ∙ ap₂ (λ x y. x + y) (reached-edge g.columns (omega arith) apart-last) (edge-wide g.columns apart-last)
+      pub line-wide : text_width (line_at plan aligns n u d) ≡ left plan plan.grid.columns + line_width plan plan.grid.columns
+      line-wide = columns-append (each plan.grid.columns part) (edge_of plan.grid.columns) (edge-plain plan.grid.columns) ∙ ap₂ (λ x y. x + y) (reached-edge plan.grid.columns (omega arith) apart-last) (edge-wide plan.grid.columns apart-last)
 
       -- ---- what stands in a line
 
       -- an edge stands where no owner is all round it
-      pub edge-stands : (j : ℕ) → j ≤ g.columns → border Columns style g j ≡ 1 → ((o : Rectangle) → up j ≡ Some o → up (j + 1) ≡ Some o → down j ≡ Some o → down (j + 1) ≡ Some o → ⊥) → StandsIn (picture_line style aligns g es n u d) (left style g es j) (mark style (eqb u d) (meeting_at j) ∷ [])
-      edge-stands j h drawn never = by (cases_lt j g.columns)
+      pub edge-stands : (j : ℕ) → j ≤ plan.grid.columns → line_width plan j ≡ 1 → ((o : Rectangle) → up j ≡ Some o → up (j + 1) ≡ Some o → down j ≡ Some o → down (j + 1) ≡ Some o → ⊥) → StandsIn (line_at plan aligns n u d) (left plan j) (mark plan.style (eqb u d) (meeting_at j) ∷ [])
+      edge-stands j h drawn never = elim (cases_lt j plan.grid.columns) [
+        | inl less ↦
+            let s = split-each part plan.grid.columns j less in
+            record {
+              before = each j part;
+              after = column_of j ++ (s.rest ++ edge_of plan.grid.columns);
+              is = ap (λ xs. xs ++ edge_of plan.grid.columns) s.is ∙ rw edge_is (simp append_assoc);
+              at = reached-edge j h apart;
+            }
+        | inr last ↦
+            let same : plan.grid.columns ≡ j = omega arith in
+            record {
+              before = each j part;
+              after = [];
+              is = ap (λ k. each k part ++ edge_of k) same ∙ ap (λ xs. each j part ++ xs) (edge_is ∙ sym (append-nil (mark_at j ∷ [])));
+              at = reached-edge j h apart;
+            }
+      ]
         where
           apart : joint j ≡ false
           apart = not-joint j h wide never
 
-          edge_is : edge_at j ≡ mark_at j ∷ []
+          edge_is : edge_of j ≡ mark_at j ∷ []
           edge_is = edge-is j apart ∙ ap (λ k. replicate k (mark_at j)) drawn
 
-          by : (j < g.columns) ⊎ (g.columns ≤ j) → StandsIn (picture_line style aligns g es n u d) (left style g es j) (mark_at j ∷ [])
-          by (inl less) =
-              let s = split-each part g.columns j less in
-              record {
-                before = each j part;
-                after = column_at j ++ (s.rest ++ edge_at g.columns);
-                is = ap (λ xs. xs ++ edge_at g.columns) s.is ∙ rw edge_is (simp append_assoc);
-                at = reached-edge j h apart;
-              }
-          by (inr last) =
-              let same : g.columns ≡ j = omega arith in
-              record {
-                before = each j part;
-                after = [];
-                is = ap (λ k. each k part ++ edge_at k) same ∙ ap (λ xs. each j part ++ xs) (edge_is ∙ sym (append-nil (mark_at j ∷ [])));
-                at = reached-edge j h apart;
-              }
-
       -- between two owners stands a level border
-      pub level-stands : (j : ℕ) → j < g.columns → ((o : Rectangle) → up (j + 1) ≡ Some o → down (j + 1) ≡ Some o → ⊥) → StandsIn (picture_line style aligns g es n u d) (left style g es j + border Columns style g j) (replicate (left style g es (j + 1) - left style g es j - border Columns style g j) style.horizontal)
+      pub level-stands : (j : ℕ) → j < plan.grid.columns → ((o : Rectangle) → up (j + 1) ≡ Some o → down (j + 1) ≡ Some o → ⊥) → StandsIn (line_at plan aligns n u d) (left plan j + line_width plan j) (replicate (left plan (j + 1) - left plan j - line_width plan j) plan.style.horizontal)
       level-stands j less never =
-          let size = get_or (widths style g es) j 0 + 2 in
-          let two : differ (up (j + 1)) (down (j + 1)) ≡ true = true_from_ne_false (differ (up (j + 1)) (down (j + 1))) (λ f. (let both = owner-both g.rows g.columns es well u (j + 1) d (j + 1) f (some-one (j + 1) (omega arith) (omega (arith, less))) in never both.0 both.1 both.2)) in
-          let is : column_at j ≡ replicate size style.horizontal = column-apart j two in
-          let to : left style g es (j + 1) ≡ left style g es j + (border Columns style g j + get_or (widths style g es) j 0 + 2) = start-next Columns style g es j in
-          let many : size ≡ left style g es (j + 1) - left style g es j - border Columns style g j = omega (arith, to) in
+          let size = get_or (widths plan) j 0 + 2 in
+          let two : differ (up (j + 1)) (down (j + 1)) ≡ true = true_from_ne_false (differ (up (j + 1)) (down (j + 1))) (λ f. (let both = owner-both well u (j + 1) d (j + 1) f (some-one (j + 1) (omega arith) (omega (arith, less))) in never both.0 both.1 both.2)) in
+          let is : column_of j ≡ replicate size plan.style.horizontal = column-apart j two in
+          let to : left plan (j + 1) ≡ left plan j + (line_width plan j + get_or (widths plan) j 0 + 2) = start-next Columns plan.style plan.grid plan.merged j in
+          let many : size ≡ left plan (j + 1) - left plan j - line_width plan j = omega (arith, to) in
           let apart : joint j ≡ false = not-joint j (omega (arith, less)) wide (λ o e e' f f'. never o e' f') in
-          let s = split-each part g.columns j less in
-          let stands : StandsIn (picture_line style aligns g es n u d) (left style g es j + border Columns style g j) (column_at j) = record {
-            before = each j part ++ edge_at j;
-            after = s.rest ++ edge_at g.columns;
-            is = ap (λ xs. xs ++ edge_at g.columns) s.is ∙ simp append_assoc;
-            at = columns-append (each j part) (edge_at j) (edge-plain j) ∙ ap₂ (λ x y. x + y) (reached-edge j (omega (arith, less)) apart) (edge-wide j apart);
+          let s = split-each part plan.grid.columns j less in
+          let stands : StandsIn (line_at plan aligns n u d) (left plan j + line_width plan j) (column_of j) = record {
+            before = each j part ++ edge_of j;
+            after = s.rest ++ edge_of plan.grid.columns;
+            is = ap (λ xs. xs ++ edge_of plan.grid.columns) s.is ∙ simp append_assoc;
+            at = columns-append (each j part) (edge_of j) (edge-plain j) ∙ ap₂ (λ x y. x + y) (reached-edge j (omega (arith, less)) apart) (edge-wide j apart);
           } in
-          subst (StandsIn (picture_line style aligns g es n u d) (left style g es j + border Columns style g j)) (is ∙ ap (λ k. replicate k style.horizontal) many) stands
+          subst (StandsIn (line_at plan aligns n u d) (left plan j + line_width plan j)) (is ∙ ap (λ k. replicate k plan.style.horizontal) many) stands
 
       -- what a cell shows stands between the edges at its left and at its right
-      pub cell-framed : (j : ℕ) (o : Rectangle) → j < g.columns → o.first.col ≡ j → up (j + 1) ≡ Some o → down (j + 1) ≡ Some o → Framed (picture_line style aligns g es n u d) (left style g es j) (border Columns style g j) (border Columns style g (j + o.size.width)) (shows style aligns g es n o)
-      cell-framed j o less first e f = by (cases_lt end g.columns)
+      pub cell-framed : (j : ℕ) (o : Rectangle) → j < plan.grid.columns → o.first.col ≡ j → up (j + 1) ≡ Some o → down (j + 1) ≡ Some o → Framed (line_at plan aligns n u d) (left plan j) (line_width plan j) (line_width plan (j + o.size.width)) (shows plan aligns n o)
+      cell-framed j o less first e f = elim (cases_lt end plan.grid.columns) [
+        | inl within ↦
+            let s = split-each part plan.grid.columns (j + o.size.width) within in
+            framed (column_of (j + o.size.width) ++ (s.rest ++ edge_of plan.grid.columns)) (ap (λ xs. xs ++ edge_of plan.grid.columns) s.is ∙ simp append_assoc)
+        | inr last ↦
+            let same : plan.grid.columns ≡ j + o.size.width = omega (arith, high, last) in
+            framed [] (ap (λ k. each k part ++ edge_of k) same ∙ ap (λ xs. each (j + o.size.width) part ++ xs) (sym (append-nil (edge_of (j + o.size.width)))))
+      ]
         where
           end : ℕ
           end = j + o.size.width
 
-          a : Owns g.rows g.columns es u (j + 1) o
-          a = owner-owns g.rows g.columns es well u (j + 1) o e
+          a : Owns plan.grid.rows plan.grid.columns plan.merged u (j + 1) o
+          a = owner-owns well e
 
-          b : Owns g.rows g.columns es d (j + 1) o
-          b = owner-owns g.rows g.columns es well d (j + 1) o f
+          b : Owns plan.grid.rows plan.grid.columns plan.merged d (j + 1) o
+          b = owner-owns well f
 
-          high : j + o.size.width ≤ g.columns
+          high : j + o.size.width ≤ plan.grid.columns
           high = omega (arith, a.lies.right, first)
 
           over : (k : ℕ) → j < k → k ≤ j + o.size.width → up k ≡ Some o
@@ -356,10 +349,10 @@ module _ (style : Style) (aligns : List Alignment) (g : Grid (List ℕ)) (es : L
           under k low within = b.all d k b.top b.bottom (omega (arith, low, first)) (omega (arith, within, first))
 
           begins : joint j ≡ false
-          begins = not-joint j (omega (arith, less)) wide (λ p x x' y y'. (let far = owner-owns g.rows g.columns es well u j o (x ∙ sym x' ∙ e) in omega (arith, far.left, first)))
+          begins = not-joint j (omega (arith, less)) wide (λ p x x' y y'. (let far = owner-owns well (x ∙ sym x' ∙ e) in omega (arith, far.left, first)))
 
           ends : joint (j + o.size.width) ≡ false
-          ends = not-joint (j + o.size.width) high wide (λ p x x' y y'. (let far = owner-owns g.rows g.columns es well u (j + o.size.width + 1) o (x' ∙ sym x ∙ over (j + o.size.width) (omega (arith, a.lies.wide)) (omega arith)) in omega (arith, far.right, first)))
+          ends = not-joint (j + o.size.width) high wide (λ p x x' y y'. (let far = owner-owns well (x' ∙ sym x ∙ over (j + o.size.width) (omega (arith, a.lies.wide)) (omega arith)) in omega (arith, far.right, first)))
 
           -- in its other columns stands nothing
           nothing : (k : ℕ) → k < o.size.width → each (j + 1 + k) part ≡ each (j + 1) part
@@ -371,31 +364,23 @@ module _ (style : Style) (aligns : List Alignment) (g : Grid (List ℕ)) (es : L
               (column-none i o (over (i + 1) (omega arith) (omega (arith, within))) (under (i + 1) (omega arith) (omega (arith, within))) (λ same. omega (arith, same, first))) in
               ap (λ x. each x part) (let s : j + 1 + suc k ≡ i + 1 = omega arith in s) ∙ each-more part i ∙ ap (λ x. each i part ++ x) none ∙ append-nil (each i part) ∙ nothing k (omega (arith, within))
 
-          before_end : each (j + o.size.width) part ≡ each j part ++ (edge_at j ++ shows style aligns g es n o)
+          before_end : each (j + o.size.width) part ≡ each j part ++ (edge_of j ++ shows plan aligns n o)
           before_end =
               ap (λ x. each x part) (let s : j + o.size.width ≡ j + 1 + (o.size.width - 1) = omega (arith, a.lies.wide) in s) ∙ nothing (o.size.width - 1) (omega (arith, a.lies.wide))
-              ∙ each-more part j ∙ ap (λ x. each j part ++ (edge_at j ++ x)) (column-shows j o e f first)
+              ∙ each-more part j ∙ ap (λ x. each j part ++ (edge_of j ++ x)) (column-shows j o e f first)
 
-          framed : (after : List ℕ) → picture_line style aligns g es n u d ≡ each (j + o.size.width) part ++ (edge_at (j + o.size.width) ++ after) → Framed (picture_line style aligns g es n u d) (left style g es j) (border Columns style g j) (border Columns style g (j + o.size.width)) (shows style aligns g es n o)
+          framed : (after : List ℕ) → line_at plan aligns n u d ≡ each (j + o.size.width) part ++ (edge_of (j + o.size.width) ++ after) → Framed (line_at plan aligns n u d) (left plan j) (line_width plan j) (line_width plan (j + o.size.width)) (shows plan aligns n o)
           framed after is = record {
-            first = edge_at j;
-            last = edge_at (j + o.size.width);
-            first_long = ap length (edge-is j begins) ∙ length-replicate (border Columns style g j) (mark_at j);
-            last_long = ap length (edge-is (j + o.size.width) ends) ∙ length-replicate (border Columns style g (j + o.size.width)) (mark_at (j + o.size.width));
-            first_marks = subst (AllByRecursion IsFineMark) (sym (edge-is j begins)) (all-marks (border Columns style g j) (mark_at j) (mark-fine style fine (eqb u d) (meeting_at j)));
-            last_marks = subst (AllByRecursion IsFineMark) (sym (edge-is (j + o.size.width) ends)) (all-marks (border Columns style g (j + o.size.width)) (mark_at (j + o.size.width)) (mark-fine style fine (eqb u d) (meeting_at (j + o.size.width))));
+            first = edge_of j;
+            last = edge_of (j + o.size.width);
+            first_long = ap length (edge-is j begins) ∙ length-replicate (line_width plan j) (mark_at j);
+            last_long = ap length (edge-is (j + o.size.width) ends) ∙ length-replicate (line_width plan (j + o.size.width)) (mark_at (j + o.size.width));
+            first_marks = subst (AllByRecursion IsFineMark) (sym (edge-is j begins)) (all-marks (line_width plan j) (mark_at j) (mark-fine plan.style fine (eqb u d) (meeting_at j)));
+            last_marks = subst (AllByRecursion IsFineMark) (sym (edge-is (j + o.size.width) ends)) (all-marks (line_width plan (j + o.size.width)) (mark_at (j + o.size.width)) (mark-fine plan.style fine (eqb u d) (meeting_at (j + o.size.width))));
             stands = record {
               before = each j part;
               after = after;
-              is = is ∙ ap (λ x. x ++ (edge_at (j + o.size.width) ++ after)) before_end ∙ simp append_assoc;
+              is = is ∙ ap (λ x. x ++ (edge_of (j + o.size.width) ++ after)) before_end ∙ simp append_assoc;
               at = reached-edge j (omega (arith, less)) begins;
             };
           }
-
-          by : (end < g.columns) ⊎ (g.columns ≤ end) → Framed (picture_line style aligns g es n u d) (left style g es j) (border Columns style g j) (border Columns style g (j + o.size.width)) (shows style aligns g es n o)
-          by (inl within) =
-              let s = split-each part g.columns (j + o.size.width) within in
-              framed (column_at (j + o.size.width) ++ (s.rest ++ edge_at g.columns)) (ap (λ xs. xs ++ edge_at g.columns) s.is ∙ simp append_assoc)
-          by (inr last) =
-              let same : g.columns ≡ j + o.size.width = omega (arith, high, last) in
-              framed [] (ap (λ k. each k part ++ edge_at k) same ∙ ap (λ xs. each (j + o.size.width) part ++ xs) (sym (append-nil (edge_at (j + o.size.width)))))

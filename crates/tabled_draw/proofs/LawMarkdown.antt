@@ -1,8 +1,8 @@
 -- What holds of tables as Markdown.
-use Rattle.tabled_draw.proofs.Common.{[], Alignment, Grid, IsInside, List, Rectangle, SpanMap, ap, arith, cond, each, fitting, get_or, length, map, refl, ne_eqb, place, rectangles, sym, ℕ, ◌+◌, ◌<◌, ◌∙◌, ◌≡◌, subst}
+use Rattle.tabled_draw.proofs.Common.{Alignment, Grid, IsInside, List, Rectangle, SpanMap, [], ap, arith, cond, each, fitting, get_or, length, map, ne_eqb, place, rectangles, refl, subst, sym, ℕ, ◌+◌, ◌<◌, ◌∙◌, ◌≡◌}
 use Rattle.tabled_draw.proofs.Each.{get-singles, length-singles}
 use Rattle.tabled_draw.proofs.MarkdownCells.{count-lines, dashes-read, line-at, row-read, second-line}
-use Rattle.tabled_draw.specs.Markdown.{cell_apart, markdown_width, markdown_widths, lines_at, lines_of, markdown, markdown_lines, row_apart, rows_apart}
+use Rattle.tabled_draw.specs.Markdown.{cell_apart, lines_at, lines_of, markdown, markdown_lines, markdown_width, markdown_widths, row_apart, rows_apart}
 use Rattle.tabled_draw.specs.MarkdownRead.{AreReadAs, IsReadAs, cells_of, read_cell}
 use Rattle.tabled_draw.specs.Picture.{bytes_of_lines}
 

@@ -3,12 +3,12 @@ use Rattle.std.proofs.lemmas.List.{reverse-append, reverse-reverse}
 use Rattle.std.specs.Char.{is_control, is_whitespace}
 use Rattle.std.specs.Fmt.{decimal}
 use Rattle.std.specs.Prelude.{chars, codes, reverse}
-use Rattle.tabled_draw.proofs.Common.{[], AllByRecursion, Alignment, Bool, Grid, List, Position, Rectangle, Some, aligned, alignment_in, ap, ap₂, append-nil, append_assoc, arith, cond, each, eqb, false, false≢true, get_or, indent, is_hidden_in, length, map, ne_eqb, place, refl, replicate, replicate-append-replicate, subst, suc, sym, text_of_cell, text_width, true, zero, ℕ, ◌&&◌, ◌++◌, ◌+◌, ◌-◌, ◌<◌, ◌||◌, ◌∙◌, ◌∷◌, ◌≡◌, ◌≤◌}
+use Rattle.tabled_draw.proofs.Common.{Alignment, AllByRecursion, Bool, Grid, List, Position, Rectangle, Some, [], aligned, alignment_in, ap, append-nil, append_assoc, ap₂, arith, cond, each, eqb, false, get_or, indent, is_hidden_in, length, map, ne_eqb, place, refl, replicate, replicate-append-replicate, subst, suc, sym, text_of_cell, text_width, true, zero, ℕ, ◌&&◌, ◌++◌, ◌+◌, ◌-◌, ◌<◌, ◌||◌, ◌∙◌, ◌∷◌, ◌≡◌, ◌≤◌, false≢true}
 use Rattle.std.proofs.lemmas.List.{map-append}
 use Rattle.tabled_draw.proofs.Each.{each-same, get-singles, length-singles}
 use Rattle.tabled_draw.specs.declared.alignment.Alignment.TheVariants.{Left, Center, Right}
 use Rattle.tabled_draw.proofs.MarkdownRead.{digits-only, numbered-small, or-false, read-escaped}
-use Rattle.tabled_draw.specs.Markdown.{cell_apart, dashes, dashes_line, lines_at, row_line, escape, escaped, escaped_behind, is_mark, is_markup, is_numbered}
+use Rattle.tabled_draw.specs.Markdown.{cell_apart, dashes, dashes_line, escape, escaped, escaped_behind, is_mark, is_markup, is_numbered, lines_at, row_line}
 use Rattle.tabled_draw.specs.MarkdownRead.{behind_blanks, cells_of, line_of_row, parts_behind, read_behind, read_cell, text_seen, trimmed}
 
 -- ---- blanks at the ends

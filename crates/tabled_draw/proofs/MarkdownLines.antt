@@ -1,14 +1,13 @@
 -- The lines of Markdown, as they are drawn.
 use Rattle.std.specs.Global.{Global, Vec}
 use Rattle.std.specs.Prelude.{String}
-use Rattle.tabled_draw.proofs.Common.{[], Alignment, Draws, List, Option, Pen, add-one, ap, ap₂, append-nil, arith, cases_lt, cond, inl, inr, ◌⊎◌, ◌≤◌, each, eq-eqb, ext_get_or, get_or, get_or-map, largest, length, map, max, ne_eqb, refl, suc, sym, text_width, with_newlines, zero, ℕ, ◌++◌, ◌+◌, ◌<◌, ◌∙◌, ◌∷◌, ◌≡◌, ◌≢◌}
+use Rattle.tabled_draw.proofs.Common.{Alignment, Draws, List, Option, Pen, [], add-one, ap, append-nil, ap₂, arith, cases_lt, cond, each, eq-eqb, ext_get_or, get_or, get_or-map, inl, inr, largest, length, map, max, ne_eqb, refl, suc, sym, text_width, widths, with_newlines, zero, ℕ, ◌++◌, ◌+◌, ◌<◌, ◌∙◌, ◌∷◌, ◌≡◌, ◌≢◌, ◌≤◌, ◌⊎◌}
 use Rattle.std.proofs.lemmas.Grind.{flat_map-append}
 use Rattle.tabled_draw.proofs.Each.{each-more, get-singles, length-singles, split-each}
-use Rattle.tabled_draw.specs.Markdown.{markdown_width, markdown_widths, dashes_line, lines_at, lines_of, row_line}
+use Rattle.tabled_draw.specs.Markdown.{characters, dashes_line, lines_at, lines_of, markdown_width, markdown_widths, row_line, rows_of_characters}
 use Rattle.tabled_grid.specs.Evenness.{AreWide}
 use Rattle.tabled_grid.specs.Grid.{map_items}
 use Rattle.tabled_draw.proofs.Pens.{draws-as, draws-then}
-use Rattle.tabled_draw.specs.MarkdownTexts.{characters, rows_of_characters}
 
 -- the characters of a text in a row
 pub characters-at : (row : List (String Global)) (j : ℕ) (text : String Global) → j < length row → text ≡ get_or row j text → characters text ≡ get_or (map characters row) j []

@@ -8,7 +8,7 @@ use Rattle.std.specs.List.{before_first, position_or_len}
 use Rattle.std.specs.Option.{option_and_then, option_map}
 use Rattle.std.specs.Prelude.{chars, codes}
 use Rattle.std.specs.Str.{bytes_eq}
-use Rattle.tabled_draw.proofs.Common.{[], AllByRecursion, Bool, List, Some, all-append, ap, ap₂, append_assoc, arith, cases_lt, cond, eqb, eqb-true, false, false≢true, get_or, inl, inr, length, ne_eqb, refl, suc, sym, take, true, ℕ, ◌&&◌, ◌++◌, ◌+◌, ◌<◌, ◌||◌, ◌∙◌, ◌∷◌, ◌≡◌, ◌≤◌, ◌⊎◌}
+use Rattle.tabled_draw.proofs.Common.{AllByRecursion, Bool, List, Some, [], all-append, ap, append_assoc, ap₂, arith, cases_lt, cond, eqb, eqb-true, false, get_or, inl, inr, length, ne_eqb, refl, suc, sym, take, true, ℕ, ◌&&◌, ◌++◌, ◌+◌, ◌<◌, ◌||◌, ◌∙◌, ◌∷◌, ◌≡◌, ◌≤◌, ◌⊎◌, false≢true}
 use Rattle.std.proofs.Common.{◌^◌}
 use Rattle.tabled_draw.specs.Markdown.{escape, escaped, escaped_behind, goes_on, is_mark, is_markup, is_numbered}
 use Rattle.tabled_draw.specs.MarkdownRead.{first_read, read_behind, reference}

@@ -1,5 +1,5 @@
 -- Lists in the order of a number of each element.
-use Rattle.tabled_draw.proofs.Common.{[], List, Member, ◌++◌, ◌<◌, ◌==◌, ◌&&◌, ◌∙◌, ◌∷◌, ◌≡◌, ◌≢◌, ◌≤◌, ◌⊎◌, AllByRecursion, Bool, ap, ap₂, arith, by_number, cases_eq, cond, cond-false, cond-true, each, eq-eqb, eqb-true, false, false_from_ne_true, inl, inr, nat_lt, nat_tests, not, refl, subst, suc, sym, true, zero, ℕ}
+use Rattle.tabled_draw.proofs.Common.{AllByRecursion, Bool, List, Member, [], ap, ap₂, arith, by_number, cases_eq, cond, cond-false, cond-true, each, eq-eqb, eqb-true, false, false_from_ne_true, inl, inr, nat_lt, nat_tests, not, refl, subst, suc, sym, true, zero, ℕ, ◌&&◌, ◌++◌, ◌<◌, ◌==◌, ◌∙◌, ◌∷◌, ◌≡◌, ◌≢◌, ◌≤◌, ◌⊎◌}
 use Rattle.std.specs.List.{filter}
 use Rattle.std.proofs.lemmas.List.Elements.{filter_agree}
 use Rattle.std.specs.List.Sorted.{IsNonDecreasingBy, IsStableByKey, ties}
@@ -9,12 +9,12 @@ use Rattle.tabled_grid.proofs.Members.{filter-from, filter-member, member-either
 use Rattle.tabled_draw.proofs.Each.{each-same}
 
 lower : (m n : ℕ) → is_lt (nat_cmp m n) ≡ nat_lt m n
-lower m n = by (nat_lt m n) (m == n)
+lower m n = less-of (nat_lt m n) (m == n)
   where
-    by : (b c : Bool) → is_lt (cond b Less (cond c Equal Greater)) ≡ b
-    by true c = refl
-    by false true = refl
-    by false false = refl
+    less-of : (b c : Bool) → is_lt (cond b Less (cond c Equal Greater)) ≡ b
+    less-of true c = refl
+    less-of false true = refl
+    less-of false false = refl
 
 module _ {A : Type 0} (number : A → ℕ) where
   -- the elements of one number
@@ -24,23 +24,18 @@ module _ {A : Type 0} (number : A → ℕ) where
   -- what stands in the list in order stands in the list, and has a number below n
   pub ordered-member : (n : ℕ) (xs : List A) (x : A) → Member x (by_number number n xs) → Member x xs
   ordered-member zero xs x none = absurd none
-  ordered-member (suc n) xs x m = by (member-either x (by_number number n xs) (filter (λ x. number x == n) xs) m) (ordered-member n xs x)
-    where
-      by : Member x (by_number number n xs) ⊎ Member x (filter (λ x. number x == n) xs) → (Member x (by_number number n xs) → Member x xs) → Member x xs
-      by (inl before) go = go before
-      by (inr here) go = (filter-member (λ x. number x == n) x xs here).0
+  ordered-member (suc n) xs x m = elim (member-either x (by_number number n xs) (filter (λ x. number x == n) xs) m) [ inl before ↦ (ordered-member n xs x) before | inr here ↦ (filter-member (λ x. number x == n) x xs here).0 ]
 
   -- and the other way round
   pub member-ordered : (n : ℕ) (xs : List A) (x : A) → Member x xs → number x < n → Member x (by_number number n xs)
   member-ordered zero xs x m h = absurd (omega arith)
-  member-ordered (suc n) xs x m h = by (cases_eq (number x) n) (member-ordered n xs x m)
+  member-ordered (suc n) xs x m h = elim (cases_eq (number x) n) [
+    | inl same ↦ member-right x (by_number number n xs) (filter (λ x. number x == n) xs) (filter-from (λ x. number x == n) x xs m (eq-eqb (number x) n same))
+    | inr other ↦ member-left x (by_number number n xs) (filter (λ x. number x == n) xs) ((member-ordered n xs x m) (lower other))
+  ]
     where
       lower : number x ≢ n → number x < n
       lower other = grind (arith, nat_tests)
-
-      by : (number x ≡ n) ⊎ (number x ≢ n) → (number x < n → Member x (by_number number n xs)) → Member x (by_number number n xs ++ filter (λ x. number x == n) xs)
-      by (inl same) go = member-right x (by_number number n xs) (filter (λ x. number x == n) xs) (filter-from (λ x. number x == n) x xs m (eq-eqb (number x) n same))
-      by (inr other) go = member-left x (by_number number n xs) (filter (λ x. number x == n) xs) (go (lower other))
 
   -- ---- a sorted list is in order
 
@@ -59,20 +54,20 @@ module _ {A : Type 0} (number : A → ℕ) where
   -- an element before those whose numbers are no lower
   first-ordered : (n : ℕ) (x : A) (xs : List A) → number x < n → ((y : A) → Member y xs → number x ≤ number y) → by_number number n (x ∷ xs) ≡ x ∷ by_number number n xs
   first-ordered zero x xs h low = absurd (omega arith)
-  first-ordered (suc n) x xs h low = by (cases_eq (number x) n) (λ less. first-ordered n x xs less low)
+  first-ordered (suc n) x xs h low = first-of (cases_eq (number x) n) (λ less. first-ordered n x xs less low)
     where
       lower : number x ≢ n → number x < n
       lower other = grind (arith, nat_tests)
 
-      by : (number x ≡ n) ⊎ (number x ≢ n) → (number x < n → by_number number n (x ∷ xs) ≡ x ∷ by_number number n xs) → by_number number n (x ∷ xs) ++ filter (λ x. number x == n) (x ∷ xs) ≡ x ∷ (by_number number n xs ++ filter (λ x. number x == n) xs)
-      by (inl same) go =
+      first-of : (number x ≡ n) ⊎ (number x ≢ n) → (number x < n → by_number number n (x ∷ xs) ≡ x ∷ by_number number n xs) → by_number number n (x ∷ xs) ++ filter (λ x. number x == n) (x ∷ xs) ≡ x ∷ (by_number number n xs ++ filter (λ x. number x == n) xs)
+      first-of (inl same) go =
           ap₂ (λ ys zs. ys ++ zs) (none-below n (x ∷ xs) (λ y m. at_least y m)) (cond-true _ _ _ (eq-eqb (number x) n same))
           ∙ ap (λ ys. x ∷ (ys ++ filter (λ x. number x == n) xs)) (sym (none-below n xs (λ y m. omega (arith, low y m, same))))
         where
           at_least : (y : A) → Member y (x ∷ xs) → n ≤ number y
           at_least y (inl e) = omega (arith, same, ap number e)
           at_least y (inr m) = omega (arith, low y m, same)
-      by (inr other) go = ap₂ (λ ys zs. ys ++ zs) (go (lower other)) (cond-false _ _ _ (false_from_ne_true _ (λ t. other (eqb-true (number x) n t))))
+      first-of (inr other) go = ap₂ (λ ys zs. ys ++ zs) (go (lower other)) (cond-false _ _ _ (false_from_ne_true _ (λ t. other (eqb-true (number x) n t))))
 
   least-first : (x : A) (xs : List A) → IsNonDecreasingBy number (x ∷ xs) → (y : A) → Member y xs → number x ≤ number y
   least-first x (z ∷ xs) up y (inl e) = omega (arith, up 0 1 x (omega arith) (omega arith), ap number e)
@@ -91,10 +86,10 @@ module _ {A : Type 0} (number : A → ℕ) where
 
   -- the elements of a number that ties with an element's
   tied : (x y : A) → ties (λ x y. is_lt (nat_cmp (number x) (number y))) x y ≡ (number y == number x)
-  tied x y = ap₂ (λ a b. not a && not b) (lower (number x) (number y)) (lower (number y) (number x)) ∙ by (number x) (number y)
+  tied x y = ap₂ (λ a b. not a && not b) (lower (number x) (number y)) (lower (number y) (number x)) ∙ neither-less (number x) (number y)
     where
-      by : (m n : ℕ) → (not (nat_lt m n) && not (nat_lt n m)) ≡ (n == m)
-      by m n = grind (arith, nat_tests)
+      neither-less : (m n : ℕ) → (not (nat_lt m n) && not (nat_lt n m)) ≡ (n == m)
+      neither-less m n = grind (arith, nat_tests)
 
   -- a list that is sorted, elements of one number as they stood, is in order
   pub stably-ordered : (one : ℕ → A) → ((k : ℕ) → number (one k) ≡ k) → (xs ys : List A) → IsNonDecreasingBy number ys → IsStableByKey number nat_cmp xs ys → (n : ℕ) → ((x : A) → Member x xs → number x < n) → ys ≡ by_number number n xs

@@ -1,6 +1,6 @@
 -- What a pen draws, part after part, and cells that are drawn.
 use Rattle.std.proofs.Common.{arith}
-use Rattle.tabled_draw.proofs.Common.{[], ◌++◌, ◌+◌, ◌-◌, ◌<◌, ◌∙◌, ◌∷◌, ◌≡◌, Alignment, Draws, IsDone, List, None, Option, Pen, Sends, aligned, ap, append-nil, ap₂, cell, encode_ascii, encode_utf8, encode_utf8_all, encodes-append, first_line, indent, refl, replicate, replicate-append-replicate, subst, suc, sym, text_width, zero, ℕ}
+use Rattle.tabled_draw.proofs.Common.{Alignment, Draws, IsDone, List, None, Option, Pen, Sends, [], aligned, ap, append-nil, ap₂, cell, encode_ascii, encode_utf8, encode_utf8_all, encodes-append, first_line, indent, refl, replicate, replicate-append-replicate, subst, suc, sym, text_width, zero, ℕ, ◌++◌, ◌+◌, ◌-◌, ◌<◌, ◌∙◌, ◌∷◌, ◌≡◌}
 use Rattle.std.specs.Borrow.{MutBor}
 use Rattle.std.specs.Prelude.{Err, Ok, Result, Some, is_some, true}
 use Rattle.std.specs.Result.{OnErr, OnOk}

@@ -1,5 +1,5 @@
 -- A line whose control characters are replaced by ones that can be seen is as wide as the line.
-use Rattle.tabled_draw.proofs.Common.{[], List, Option, Some, None, Bool, ◌&&◌, ◌++◌, ◌+◌, ◌-◌, ◌<◌, ◌==◌, ◌∙◌, ◌∷◌, ◌≡◌, ◌≢◌, ◌≤◌, ◌⊎◌, AllByRecursion, Bor, IsLine, IsUtf8, ap, ap₂, arith, cases_Bool, cases_eq, cases_lt, cond, cond-false, cond-true, each, encode_ascii, encode_utf8, encode_utf8_all, eqb-false, false, false≢true, fold, fold-append, get_or, get_or-replicate, inl, inr, le-leb, map, max, nat_le, nat_tests, ne_eqb, not, refl, replicate, shown_character, shown_line, slice_split, subst, sym, text_width, true, ℕ}
+use Rattle.tabled_draw.proofs.Common.{AllByRecursion, Bool, Bor, IsLine, IsUtf8, List, None, Option, Some, [], ap, ap₂, arith, cases_Bool, cases_eq, cases_lt, cond, cond-false, cond-true, each, encode_ascii, encode_utf8, encode_utf8_all, eqb-false, false, fold, fold-append, get_or, get_or-replicate, inl, inr, le-leb, map, max, nat_le, nat_tests, ne_eqb, not, refl, replicate, shown_character, shown_line, slice_split, subst, sym, text_width, true, ℕ, ◌&&◌, ◌++◌, ◌+◌, ◌-◌, ◌<◌, ◌==◌, ◌∙◌, ◌∷◌, ◌≡◌, ◌≢◌, ◌≤◌, ◌⊎◌, false≢true}
 use Rattle.std.proofs.lemmas.List.{map-append}
 use Rattle.std.proofs.lemmas.List.Elements.{All-cons, All-nil, recursion_from_All}
 use Rattle.std.proofs.lemmas.Str.{encodes-chars}
@@ -114,14 +114,14 @@ replaced-high c low high =
     }
 
 which : (c : ℕ) → IsReplaced c ⊎ (shown_character c ≡ c)
-which c = by (cases_lt c 32) (cases_eq c 127) (cases_lt 127 c) (cases_lt c 160)
+which c = sort-of (cases_lt c 32) (cases_eq c 127) (cases_lt 127 c) (cases_lt c 160)
   where
-    by : (c < 32) ⊎ (32 ≤ c) → (c ≡ 127) ⊎ (c ≢ 127) → (127 < c) ⊎ (c ≤ 127) → (c < 160) ⊎ (160 ≤ c) → IsReplaced c ⊎ (shown_character c ≡ c)
-    by (inl h) _ _ _ = inl (replaced-low c h)
-    by (inr _) (inl is) _ _ = inl (replaced-delete c is)
-    by (inr _) (inr _) (inl low) (inl high) = inl (replaced-high c low high)
-    by (inr a) (inr other) (inr low) _ = inr (shown-other c (omega arith) other (inl (omega arith)))
-    by (inr a) (inr other) (inl _) (inr high) = inr (shown-other c (omega arith) other (inr (omega arith)))
+    sort-of : (c < 32) ⊎ (32 ≤ c) → (c ≡ 127) ⊎ (c ≢ 127) → (127 < c) ⊎ (c ≤ 127) → (c < 160) ⊎ (160 ≤ c) → IsReplaced c ⊎ (shown_character c ≡ c)
+    sort-of (inl h) _ _ _ = inl (replaced-low c h)
+    sort-of (inr _) (inl is) _ _ = inl (replaced-delete c is)
+    sort-of (inr _) (inr _) (inl low) (inl high) = inl (replaced-high c low high)
+    sort-of (inr a) (inr other) (inr low) _ = inr (shown-other c (omega arith) other (inl (omega arith)))
+    sort-of (inr a) (inr other) (inl _) (inr high) = inr (shown-other c (omega arith) other (inr (omega arith)))
 
 -- ---- such a character counts one, whatever stands behind it
 
@@ -155,20 +155,16 @@ module _ (c : ℕ) (looked : looks c ≡ neutral) (where_it_is : ((0x23FF < c) �
   no_emoji = ap (λ (l : Looks). l.1.1.1.1.1.1) looked
 
   low : 0x23FF < c
-  low = by where_it_is
-    where
-      by : ((0x23FF < c) × (c < 0x2422)) ⊎ (c ≡ 0xFFFD) → 0x23FF < c
-      by (inl h) = h.0
-      by (inr e) = omega (arith, e)
+  low = elim where_it_is [ inl h ↦ h.0 | inr e ↦ omega (arith, e) ]
 
   -- not one of the characters between
   apart : (k : ℕ) → (k < 0x2400) ⊎ (0x2421 < k) → k ≢ 0xFFFD → (c == k) ≡ false
-  apart k out other = ne_eqb c k (by where_it_is out)
+  apart k out other = ne_eqb c k (is-other where_it_is out)
     where
-      by : ((0x23FF < c) × (c < 0x2422)) ⊎ (c ≡ 0xFFFD) → (k < 0x2400) ⊎ (0x2421 < k) → c ≢ k
-      by (inl h) (inl x) e = omega (arith, h.0, x, e)
-      by (inl h) (inr x) e = omega (arith, h.1, x, e)
-      by (inr is) _ e = other (sym e ∙ is)
+      is-other : ((0x23FF < c) × (c < 0x2422)) ⊎ (c ≡ 0xFFFD) → (k < 0x2400) ⊎ (0x2421 < k) → c ≢ k
+      is-other (inl h) (inl x) e = omega (arith, h.0, x, e)
+      is-other (inl h) (inr x) e = omega (arith, h.1, x, e)
+      is-other (inr is) _ e = other (sym e ∙ is)
 
   joins-none : (a : After) → joins false a c ≡ None
   unfolding joins before_alef
@@ -306,18 +302,18 @@ keeps ZwjOrkhonI = record { marks = λ t. (refl, refl); kept = λ t. refl; joine
 keeps KhmerLetter = record { marks = λ t. (refl, refl); kept = λ t. refl; joined = λ t. refl }
 
 kept-calm : (s : State) → is_line_feed (if_kept s).after ≡ false
-kept-calm s = by (is_kept s.after) refl
+kept-calm s = kept-or-plain (is_kept s.after) refl
   where
-    by : (b : Bool) → is_kept s.after ≡ b → is_line_feed (cond b s plain).after ≡ false
-    by true t = (keeps s.after).kept t
-    by false t = refl
+    kept-or-plain : (b : Bool) → is_kept s.after ≡ b → is_line_feed (cond b s plain).after ≡ false
+    kept-or-plain true t = (keeps s.after).kept t
+    kept-or-plain false t = refl
 
 selected-calm : (s : State) → is_line_feed (cond (is_joined_emoji s.after) s (if_kept s)).after ≡ false
-selected-calm s = by (is_joined_emoji s.after) refl
+selected-calm s = joined-or-kept (is_joined_emoji s.after) refl
   where
-    by : (b : Bool) → is_joined_emoji s.after ≡ b → is_line_feed (cond b s (if_kept s)).after ≡ false
-    by true t = (keeps s.after).joined t
-    by false t = kept-calm s
+    joined-or-kept : (b : Bool) → is_joined_emoji s.after ≡ b → is_line_feed (cond b s (if_kept s)).after ≡ false
+    joined-or-kept true t = (keeps s.after).joined t
+    joined-or-kept false t = kept-calm s
 
 IsCalm : Option (Change × After) → Type 0
 IsCalm None = Unit {0}
@@ -451,14 +447,15 @@ read-calm (c ∷ cs) all = calm-step c (read_before false cs (0, plain)) all.0
 
 read-shown : (cs : List ℕ) → AllByRecursion (λ c. c ≢ 10) cs → read_before false (map shown_character cs) (0, plain) ≡ read_before false cs (0, plain)
 read-shown [] all = refl
-read-shown (c ∷ cs) all = by (which c) (read-shown cs all.1)
+read-shown (c ∷ cs) all =
+    let go = read-shown cs all.1 in
+    elim (which c) [
+      | inr same ↦ ap₂ (step false) same go
+      | inl is ↦ ap (step false (shown_character c)) go ∙ step-neutral (shown_character c) is.looks is.shown r ∙ sym (step-control c r all.0 is.below is.base (read-calm cs all.1))
+    ]
   where
     r : Reading
     r = read_before false cs (0, plain)
-
-    by : IsReplaced c ⊎ (shown_character c ≡ c) → read_before false (map shown_character cs) (0, plain) ≡ r → step false (shown_character c) (read_before false (map shown_character cs) (0, plain)) ≡ step false c r
-    by (inr same) go = ap₂ (step false) same go
-    by (inl is) go = ap (step false (shown_character c)) go ∙ step-neutral (shown_character c) is.looks is.shown r ∙ sym (step-control c r all.0 is.below is.base (read-calm cs all.1))
 
 pub shown-width : (cs : List ℕ) → AllByRecursion (λ c. c ≢ 10) cs → text_width (map shown_character cs) ≡ text_width cs
 unfolding str_width
@@ -486,15 +483,16 @@ line-width bs utf8 line = sym (shown-width (chars bs) (no-newlines (chars bs) (s
 -- what a text is split into at newlines has none
 pub split-lines : (bs : List ℕ) → AllByRecursion IsLine (slice_split (λ b. b == 10) bs)
 split-lines [] = (All-nil (λ b. b ≢ 10), tt)
-split-lines (b ∷ bs) = by (cases_Bool (b == 10)) (split-lines bs)
+split-lines (b ∷ bs) =
+    let all = split-lines bs in
+    elim (cases_Bool (b == 10)) [
+      | inl t ↦ subst (AllByRecursion IsLine) (sym (cond-true (b == 10) _ _ t)) (All-nil (λ b. b ≢ 10), all)
+      | inr f ↦ subst (AllByRecursion IsLine) (sym (cond-false (b == 10) _ _ f)) (onto (eqb-false b 10 f) (slice_split (λ b. b == 10) bs) all)
+    ]
   where
     onto : b ≢ 10 → (parts : List (List ℕ)) → AllByRecursion IsLine parts → AllByRecursion IsLine (onto_first b parts)
     onto other [] all = (All-cons (λ b. b ≢ 10) b [] other (All-nil (λ b. b ≢ 10)), tt)
     onto other (part ∷ parts) all = (All-cons (λ b. b ≢ 10) b part other all.0, all.1)
-
-    by : ((b == 10) ≡ true) ⊎ ((b == 10) ≡ false) → AllByRecursion IsLine (slice_split (λ b. b == 10) bs) → AllByRecursion IsLine (cond (b == 10) ([] ∷ slice_split (λ b. b == 10) bs) (onto_first b (slice_split (λ b. b == 10) bs)))
-    by (inl t) all = subst (AllByRecursion IsLine) (sym (cond-true (b == 10) _ _ t)) (All-nil (λ b. b ≢ 10), all)
-    by (inr f) all = subst (AllByRecursion IsLine) (sym (cond-false (b == 10) _ _ f)) (onto (eqb-false b 10 f) (slice_split (λ b. b == 10) bs) all)
 
 abbrev widest_of : List (List ℕ) → ℕ
 widest_of lines = fold (λ most line. max most (text_width line)) 0 lines

@@ -1,5 +1,5 @@
 -- A line as it is drawn is the line of the picture; the lines of a row, and those of all rows.
-use Rattle.tabled_draw.proofs.Common.{Alignment, AreEdges, AreLeft, Bool, Bor, Columns, EndInside, Fits, Grid, IsOwnerRow, List, None, Option, Position, Rectangle, Rows, Some, SpanMap, Style, [], add-zero, after_line, aligned, alignment_in, ap, append-nil, append_assoc, ap₂, arith, begins, begun, border, border_line, border_of_rests, bytes_in, cases_Bool, cases_eq, cases_lt, column, cond, cond-false, cond-true, each, edge, rectangles, eq-eqb, eqb, false, first_line, get_or, heights, inl, inr, is_drawn, left, left_of, length, lines_of_row, lines_shown, ne_eqb, picture, picture_line, place, refl, replicate, room, same_place, same_place-apart, same_place-self, shows_in, stretches, suc, sym, text_inside, text_of_cell, top, true, widths, with_newlines, zero, ℕ, ◌++◌, ◌+◌, ◌-◌, ◌<◌, ◌==◌, ◌||◌, ◌∙◌, ◌∷◌, ◌≡◌, ◌≢◌, ◌≤◌, ◌⊎◌, differ, edge_between, column_between, edge_before, level, size_if}
+use Rattle.tabled_draw.proofs.Common.{Alignment, AreEdges, AreLeft, Bool, Bor, Columns, EndInside, Fits, Grid, IsOwnerRow, List, None, Option, Plan, Position, Rectangle, Rows, Some, SpanMap, Style, [], add-zero, after_line, aligned, alignment_in, ap, append-nil, append_assoc, ap₂, arith, begins, begun, border_line, bytes_in, cases_Bool, cases_eq, cases_lt, column, column_at, cond, cond-false, cond-true, differ, drawn_border, each, edge, edge_at, edge_before, eq-eqb, eqb, false, first_line, get_or, heights, inl, inr, is_drawn, left, left_of, length, line_at, line_height, line_width, lines_of_row, lines_shown, ne_eqb, owner_at, picture_lines, place, plan_of, plan_on, rectangles, refl, replicate, room, same_place, same_place-apart, same_place-self, shows_in, size_if, stretch, suc, sym, text_inside, text_of_cell, top, true, widths, with_newlines, zero, ℕ, ◌++◌, ◌+◌, ◌-◌, ◌<◌, ◌==◌, ◌||◌, ◌∙◌, ◌∷◌, ◌≡◌, ◌≤◌, ◌⊎◌}
 use Rattle.tabled_draw.proofs.Arms.{differ-self}
 use Rattle.tabled_draw.proofs.Each.{each-same, each-more}
 use Rattle.tabled_draw.proofs.Shares.{room-end}
@@ -9,91 +9,90 @@ use Rattle.tabled_draw.specs.Lines.{drawn_line}
 use Rattle.tabled_draw.specs.Owners.{owner}
 use Rattle.std.proofs.lemmas.List.Concat.{flat_map-append}
 use Rattle.tabled_draw.proofs.Shown.{next-line}
+use Rattle.tabled_draw.specs.declared.sheet.Sheet.{Sheet}
 
 -- an edge as it is drawn is that of the picture
-pub edge-is : (style : Style) (g : Grid (List ℕ)) (es : List Rectangle) (u d j : ℕ) (is_row : Bool) (columns : ℕ) (p q r s : Option Rectangle) → is_row ≡ eqb u d → columns ≡ g.columns
-    → p ≡ owner g.rows g.columns es u j → q ≡ owner g.rows g.columns es u (j + 1) → r ≡ owner g.rows g.columns es d j → s ≡ owner g.rows g.columns es d (j + 1)
-    → edge style is_row (is_drawn style.columns columns j) p q r s ≡ edge_between style g es u d j
-edge-is style g es u d j is_row columns p q r s is same e1 e2 e3 e4 = rw (is, same, e1, e2, e3, e4) refl
+pub edge-is : (plan : Plan) (u d j : ℕ) (is_row : Bool) (columns : ℕ) (p q r s : Option Rectangle) → is_row ≡ eqb u d → columns ≡ plan.grid.columns
+    → p ≡ owner_at plan u j → q ≡ owner_at plan u (j + 1) → r ≡ owner_at plan d j → s ≡ owner_at plan d (j + 1)
+    → edge plan.style is_row (size_if (is_drawn plan.style.columns columns j)) p q r s ≡ edge_at plan u d j
+edge-is plan u d j is_row columns p q r s is same e1 e2 e3 e4 = rw (is, same, e1, e2, e3, e4) refl
 
-module _ (style : Style) (aligns : List Alignment) (g : Grid (List ℕ)) (m : SpanMap) (fits : Fits m g.rows g.columns) (edges : List ℕ) (laid : AreEdges style g m edges) (n u d : ℕ) where
+module _ (sheet : Sheet) (g : Grid (List ℕ)) (m : SpanMap) (fits : Fits m g.rows g.columns) (laid : AreEdges (plan_on sheet g m) sheet.edges.now) (n u d : ℕ) where
   -- the lines that are left in each column are those that the n-th line of the picture shows
   unfoldable pub AreNext : List (List ℕ) → Type 0
-  AreNext texts = (j : ℕ) (o : Rectangle) → j < g.columns → owner g.rows g.columns (rectangles m) u (j + 1) ≡ Some o → o.first.col ≡ j → differ (owner g.rows g.columns (rectangles m) u (j + 1)) (owner g.rows g.columns (rectangles m) d (j + 1)) ≡ false
-      → first_line (get_or texts j []) ≡ get_or (lines_shown (text_of_cell g o.first)) (n - top style g (rectangles m) o.first.row - border Rows style g o.first.row) []
+  AreNext texts = (j : ℕ) (o : Rectangle) → j < g.columns → owner_at (plan_on sheet g m) u (j + 1) ≡ Some o → o.first.col ≡ j → differ (owner_at (plan_on sheet g m) u (j + 1)) (owner_at (plan_on sheet g m) d (j + 1)) ≡ false
+      → first_line (get_or texts j []) ≡ get_or (lines_shown (text_of_cell g o.first)) (n - top (plan_on sheet g m) o.first.row - line_height (plan_on sheet g m) o.first.row) []
 
   module _ (columns : ℕ) (same : columns ≡ g.columns) where
     -- the room of what begins in a column
-    room-is : (j col w : ℕ) → col ≡ j → j + w < g.columns + 1 → get_or edges (j + w) 0 - get_or edges j 0 - size_if (is_drawn style.columns columns j) - 2 ≡ room Columns (border Columns style g) (widths style g (rectangles m)) col w
-    room-is j col w at h = rw (at, same) (ap₂ (λ x y. x - y - border Columns style g j - 2) (laid.each (j + w) h) (laid.each j (omega (arith, h))))
+    room-is : (j col w : ℕ) → col ≡ j → j + w < g.columns + 1 → get_or sheet.edges.now (j + w) 0 - get_or sheet.edges.now j 0 - size_if (is_drawn sheet.look.style.columns columns j) - 2 ≡ room Columns (line_width (plan_on sheet g m)) (widths (plan_on sheet g m)) col w
+    room-is j col w at h = rw (at, same) (ap₂ (λ x y. x - y - line_width (plan_on sheet g m) j - 2) (laid.each (j + w) h) (laid.each j (omega (arith, h))))
 
-    inside-is : (texts : List (List ℕ)) → AreNext texts → (j : ℕ) → j < g.columns → (a : Option Rectangle) → a ≡ owner g.rows g.columns (rectangles m) u (j + 1)
-        → differ (owner g.rows g.columns (rectangles m) u (j + 1)) (owner g.rows g.columns (rectangles m) d (j + 1)) ≡ false → text_inside aligns (is_drawn style.columns columns j) edges j a (get_or texts j []) ≡ shows_in style aligns g (rectangles m) n j a
+    inside-is : (texts : List (List ℕ)) → AreNext texts → (j : ℕ) → j < g.columns → (a : Option Rectangle) → a ≡ owner_at (plan_on sheet g m) u (j + 1)
+        → differ (owner_at (plan_on sheet g m) u (j + 1)) (owner_at (plan_on sheet g m) d (j + 1)) ≡ false → text_inside sheet (is_drawn sheet.look.style.columns columns j) j a (get_or texts j []) ≡ shows_in (plan_on sheet g m) sheet.look.alignments.now n j a
     unfolding AreNext
     inside-is texts next j less None e one = refl
-    inside-is texts next j less (Some o) e one = by (cases_eq o.first.col j)
+    inside-is texts next j less (Some o) e one = elim (cases_eq o.first.col j) [
+      | inl at ↦
+          cond-true _ _ _ (eq-eqb o.first.col j at)
+          ∙ ap₂ (λ x y. aligned (alignment_in sheet.look.alignments.now j) x y) (room-is j o.first.col o.size.width at (omega (arith, there.lies.right, at))) (next j o less (sym e) at one)
+          ∙ ap (λ k. aligned (alignment_in sheet.look.alignments.now k) (room Columns (line_width (plan_on sheet g m)) (widths (plan_on sheet g m)) o.first.col o.size.width) line) (sym at)
+          ∙ sym (cond-true _ _ _ (eq-eqb o.first.col j at))
+      | inr apart ↦ cond-false _ _ _ (ne_eqb o.first.col j apart) ∙ sym (cond-false _ _ _ (ne_eqb o.first.col j apart))
+    ]
       where
         there : Owns g.rows g.columns (rectangles m) u (j + 1) o
-        there = owner-owns g.rows g.columns (rectangles m) (fits-well m g.rows g.columns fits) u (j + 1) o (sym e)
+        there = owner-owns (fits-well m g.rows g.columns fits) (sym e)
 
         line : List ℕ
-        line = get_or (lines_shown (text_of_cell g o.first)) (n - top style g (rectangles m) o.first.row - border Rows style g o.first.row) []
+        line = get_or (lines_shown (text_of_cell g o.first)) (n - top (plan_on sheet g m) o.first.row - line_height (plan_on sheet g m) o.first.row) []
 
-        by : (o.first.col ≡ j) ⊎ (o.first.col ≢ j) → text_inside aligns (is_drawn style.columns columns j) edges j (Some o) (get_or texts j []) ≡ shows_in style aligns g (rectangles m) n j (Some o)
-        by (inl at) =
-            cond-true _ _ _ (eq-eqb o.first.col j at)
-            ∙ ap₂ (λ x y. aligned (alignment_in aligns j) x y) (room-is j o.first.col o.size.width at (omega (arith, there.lies.right, at))) (next j o less (sym e) at one)
-            ∙ ap (λ k. aligned (alignment_in aligns k) (room Columns (border Columns style g) (widths style g (rectangles m)) o.first.col o.size.width) line) (sym at)
-            ∙ sym (cond-true _ _ _ (eq-eqb o.first.col j at))
-        by (inr apart) = cond-false _ _ _ (ne_eqb o.first.col j apart) ∙ sym (cond-false _ _ _ (ne_eqb o.first.col j apart))
-
-    size-is : (j : ℕ) → j < g.columns → get_or edges (j + 1) 0 - get_or edges j 0 - size_if (is_drawn style.columns columns j) ≡ get_or (widths style g (rectangles m)) j 0 + 2
+    size-is : (j : ℕ) → j < g.columns → get_or sheet.edges.now (j + 1) 0 - get_or sheet.edges.now j 0 - size_if (is_drawn sheet.look.style.columns columns j) ≡ get_or (widths (plan_on sheet g m)) j 0 + 2
     size-is j less =
-        let last : get_or edges (j + 1) 0 ≡ left style g (rectangles m) (j + 1) = laid.each (j + 1) (omega (arith, less)) in
-        let first : get_or edges j 0 ≡ left style g (rectangles m) j = laid.each j (omega (arith, less)) in
-        let next : left style g (rectangles m) (j + 1) ≡ left style g (rectangles m) j + (size_if (is_drawn style.columns columns j) + get_or (widths style g (rectangles m)) j 0 + 2) = rw same (start-next Columns style g (rectangles m) j) in
+        let last : get_or sheet.edges.now (j + 1) 0 ≡ left (plan_on sheet g m) (j + 1) = laid.each (j + 1) (omega (arith, less)) in
+        let first : get_or sheet.edges.now j 0 ≡ left (plan_on sheet g m) j = laid.each j (omega (arith, less)) in
+        let next : left (plan_on sheet g m) (j + 1) ≡ left (plan_on sheet g m) j + (size_if (is_drawn sheet.look.style.columns columns j) + get_or (widths (plan_on sheet g m)) j 0 + 2) = rw same (start-next Columns sheet.look.style g (rectangles m) j) in
         omega arith
 
-  module _ (is_row : Bool) (is_mark : is_row ≡ eqb u d) (above below : List (Option Rectangle)) (over : IsOwnerRow g.rows g.columns m u above) (under : IsOwnerRow g.rows g.columns m d below)
+  module _ (is_row : Bool) (is_mark : is_row ≡ eqb u d) (above below : List (Option Rectangle)) (over : IsOwnerRow g.rows g.columns (rectangles m) u above) (under : IsOwnerRow g.rows g.columns (rectangles m) d below)
       (texts : List (List ℕ)) (next : AreNext texts) (columns : ℕ) (same : columns ≡ g.columns) where
-    column-is : (j : ℕ) → j < g.columns → column style aligns (is_drawn style.columns columns j) edges j (get_or above (j + 1) None) (get_or below (j + 1) None) (get_or texts j []) ≡ column_between style aligns g (rectangles m) n u d j
+    column-is : (j : ℕ) → j < g.columns → column sheet (is_drawn sheet.look.style.columns columns j) (differ (get_or above (j + 1) None) (get_or below (j + 1) None)) j (get_or above (j + 1) None) (get_or texts j []) ≡ column_at (plan_on sheet g m) sheet.look.alignments.now n u d j
     column-is j less =
-        ap₂ (λ x y. column style aligns (is_drawn style.columns columns j) edges j x y (get_or texts j [])) (over.each (j + 1) (omega (arith, less))) (under.each (j + 1) (omega (arith, less)))
-        ∙ by (cases_Bool (differ a b))
+        ap₂ (λ x y. column sheet (is_drawn sheet.look.style.columns columns j) (differ x y) j x (get_or texts j [])) (over.each (j + 1) (omega (arith, less))) (under.each (j + 1) (omega (arith, less)))
+        ∙ elim (cases_Bool (differ a b)) [
+          | inl two ↦ ap (λ s. cond (differ a b) (replicate s sheet.look.style.horizontal) (text_inside sheet (is_drawn sheet.look.style.columns columns j) j a (get_or texts j []))) (size-is columns same j less) ∙ cond-true _ _ _ two ∙ sym (cond-true _ _ _ two)
+          | inr one ↦ cond-false _ _ _ one ∙ inside-is columns same texts next j less a refl one ∙ sym (cond-false _ _ _ one)
+        ]
       where
         a : Option Rectangle
-        a = owner g.rows g.columns (rectangles m) u (j + 1)
+        a = owner_at (plan_on sheet g m) u (j + 1)
 
         b : Option Rectangle
-        b = owner g.rows g.columns (rectangles m) d (j + 1)
+        b = owner_at (plan_on sheet g m) d (j + 1)
 
-        by : (differ a b ≡ true) ⊎ (differ a b ≡ false) → cond (differ a b) (level style (is_drawn style.columns columns j) edges j) (text_inside aligns (is_drawn style.columns columns j) edges j a (get_or texts j [])) ≡ cond (differ a b) (replicate (get_or (widths style g (rectangles m)) j 0 + 2) style.horizontal) (shows_in style aligns g (rectangles m) n j a)
-        by (inl two) = ap (λ s. cond (differ a b) (replicate s style.horizontal) (text_inside aligns (is_drawn style.columns columns j) edges j a (get_or texts j []))) (size-is columns same j less) ∙ cond-true _ _ _ two ∙ sym (cond-true _ _ _ two)
-        by (inr one) = cond-false _ _ _ one ∙ inside-is columns same texts next j less a refl one ∙ sym (cond-false _ _ _ one)
-
-    pub line-is : drawn_line style aligns columns is_row edges above below texts ≡ picture_line style aligns g (rectangles m) n u d ++ (10 ∷ [])
+    pub line-is : drawn_line sheet is_row above below columns texts ≡ line_at (plan_on sheet g m) sheet.look.alignments.now n u d ++ (10 ∷ [])
     unfolding drawn_line
     line-is =
-        ap (λ x. x ++ (10 ∷ [])) (ap (λ k. each k (stretches style aligns columns is_row edges above below texts) ++ edge_before style columns is_row above below k) same
+        ap (λ x. x ++ (10 ∷ [])) (ap (λ k. each k (stretch sheet is_row above below columns texts) ++ edge_before sheet is_row above below columns k) same
         ∙ ap₂ (λ x y. x ++ y)
-        (each-same (stretches style aligns columns is_row edges above below texts) _ g.columns (λ j less. ap₂ (λ x y. x ++ y)
-        (edge-is style g (rectangles m) u d j is_row columns _ _ _ _ is_mark same (over.each j (omega (arith, less))) (over.each (j + 1) (omega (arith, less))) (under.each j (omega (arith, less))) (under.each (j + 1) (omega (arith, less))))
+        (each-same (stretch sheet is_row above below columns texts) _ g.columns (λ j less. ap₂ (λ x y. x ++ y)
+        (edge-is (plan_on sheet g m) u d j is_row columns _ _ _ _ is_mark same (over.each j (omega (arith, less))) (over.each (j + 1) (omega (arith, less))) (under.each j (omega (arith, less))) (under.each (j + 1) (omega (arith, less))))
         (column-is j less)))
-        (edge-is style g (rectangles m) u d g.columns is_row columns _ _ _ _ is_mark same (over.each g.columns (omega arith)) (over.each (g.columns + 1) (omega arith)) (under.each g.columns (omega arith)) (under.each (g.columns + 1) (omega arith))))
+        (edge-is (plan_on sheet g m) u d g.columns is_row columns _ _ _ _ is_mark same (over.each g.columns (omega arith)) (over.each (g.columns + 1) (omega arith)) (under.each g.columns (omega arith)) (under.each (g.columns + 1) (omega arith))))
 
 -- the line above a row stands after those above all rows before it
-pub top-below : (style : Style) (g : Grid (List ℕ)) (es : List Rectangle) (r i : ℕ) → r < i → top style g es r + border Rows style g r ≤ top style g es i
-top-below style g es r i low =
+pub top-below : (plan : Plan) (r i : ℕ) → r < i → top plan r + line_height plan r ≤ top plan i
+top-below plan r i low =
     let n = i - r in
-    let same : top style g es (r + n) ≡ top style g es i = ap (top style g es) (let e : r + n ≡ i = omega arith in e) in
-    let more : top style g es (r + n) ≡ top style g es r + (border Rows style g r + room Rows (border Rows style g) (heights style g es) r n + 0) = room-end Rows (border Rows style g) (heights style g es) r n (omega arith) in
+    let same : top plan (r + n) ≡ top plan i = ap (top plan) (let e : r + n ≡ i = omega arith in e) in
+    let more : top plan (r + n) ≡ top plan r + (line_height plan r + room Rows (line_height plan) (heights plan) r n + 0) = room-end Rows (line_height plan) (heights plan) r n (omega arith) in
     omega (arith, same, more)
 
 -- ---- owners of two rows
 
 module _ (m : SpanMap) (rows columns : ℕ) (fits : Fits m rows columns) where
   pub owns : (i j : ℕ) (o : Rectangle) → owner rows columns (rectangles m) i j ≡ Some o → Owns rows columns (rectangles m) i j o
-  owns = owner-owns rows columns (rectangles m) (fits-well m rows columns fits)
+  owns i j o e = owner-owns (fits-well m rows columns fits) e
 
   -- one that begins above a row owns the place above, too
   pub owner-over : (i j : ℕ) (o : Rectangle) → owner rows columns (rectangles m) (i + 1) j ≡ Some o → o.first.row < i → owner rows columns (rectangles m) i j ≡ Some o
@@ -102,73 +101,75 @@ module _ (m : SpanMap) (rows columns : ℕ) (fits : Fits m rows columns) where
 -- ---- what is left of the texts, line by line
 
 module _ (style : Style) (g : Grid (List ℕ)) (m : SpanMap) (fits : Fits m g.rows g.columns) where
+  abbrev plan : Plan
+  plan = plan_of style g (rectangles m)
+
   abbrev pub at : ℕ → ℕ → Option Rectangle
-  at i j = owner g.rows g.columns (rectangles m) i j
+  at i j = owner_at plan i j
 
   -- above the first row nothing is left
-  pub left-outside : (n : ℕ) (texts : List (List ℕ)) → AreLeft style g m 0 n texts
-  left-outside n texts = record { each = λ j o less e. (let s = owner-some g.rows g.columns (rectangles m) 0 (j + 1) o e in absurd (omega (arith, s.is_row))) }
+  pub left-outside : (n : ℕ) (texts : List (List ℕ)) → AreLeft plan 0 n texts
+  left-outside n texts = record { each = λ j o less e. (let s = owner-some e in absurd (omega (arith, s.is_row))) }
 
   -- a line that runs through an owner shows the next line of its text
   cut-next : (text lines : List ℕ) (k y : ℕ) → ((y : ℕ) → get_or (lines_shown text) y [] ≡ get_or (lines_shown lines) (k + y) []) → get_or (lines_shown (after_line text)) y [] ≡ get_or (lines_shown lines) (k + 1 + y) []
   cut-next text lines k y was = next-line text y ∙ was (y + 1) ∙ ap (λ n. get_or (lines_shown lines) n []) (omega arith)
 
   -- a line in a row
-  pub left-in_row : (i n : ℕ) (old new : List (List ℕ)) → 0 < i → i ≤ g.rows → top style g (rectangles m) (i - 1) + border Rows style g (i - 1) ≤ n → AreLeft style g m i n old
-      → ((j : ℕ) → j < g.columns → get_or new j [] ≡ left_of j (at i (j + 1)) (at i (j + 1)) (get_or old j [])) → AreLeft style g m i (n + 1) new
-  left-in_row i n old new low high after was is = record { each = λ j o less e begin y. by j o less e begin y }
+  pub left-in_row : (i n : ℕ) (old new : List (List ℕ)) → 0 < i → i ≤ g.rows → top plan (i - 1) + line_height plan (i - 1) ≤ n → AreLeft plan i n old
+      → ((j : ℕ) → j < g.columns → get_or new j [] ≡ left_of j (at i (j + 1)) (at i (j + 1)) (get_or old j [])) → AreLeft plan i (n + 1) new
+  left-in_row i n old new low high after was is = record { each = λ j o less e begin y. lines-left j o less e begin y }
     where
-      by : (j : ℕ) (o : Rectangle) → j < g.columns → owner g.rows g.columns (rectangles m) i (j + 1) ≡ Some o → o.first.col ≡ j → (y : ℕ) → get_or (lines_shown (get_or new j [])) y [] ≡ get_or (lines_shown (text_of_cell g o.first)) (n + 1 - top style g (rectangles m) o.first.row - border Rows style g o.first.row + y) []
-      by j o less e begin y =
-          let cut : get_or new j [] ≡ after_line (get_or old j []) = is j less ∙ cond-false _ _ _ (differ-self (owner g.rows g.columns (rectangles m) i (j + 1))) ∙ cond-true _ _ _ (ap (begins j) e ∙ eq-eqb o.first.col j begin) in
+      lines-left : (j : ℕ) (o : Rectangle) → j < g.columns → owner_at plan i (j + 1) ≡ Some o → o.first.col ≡ j → (y : ℕ) → get_or (lines_shown (get_or new j [])) y [] ≡ get_or (lines_shown (text_of_cell g o.first)) (n + 1 - top plan o.first.row - line_height plan o.first.row + y) []
+      lines-left j o less e begin y =
+          let cut : get_or new j [] ≡ after_line (get_or old j []) = is j less ∙ cond-false _ _ _ (differ-self (owner_at plan i (j + 1))) ∙ cond-true _ _ _ (ap (begins j) e ∙ eq-eqb o.first.col j begin) in
           let row = (owns m g.rows g.columns fits i (j + 1) o e).top in
-          let over : top style g (rectangles m) o.first.row + border Rows style g o.first.row ≤ n = upper (cases_lt o.first.row (i - 1)) row in
-          ap (λ t. get_or (lines_shown t) y []) cut ∙ cut-next (get_or old j []) (text_of_cell g o.first) (n - top style g (rectangles m) o.first.row - border Rows style g o.first.row) y (was.each j o less e begin) ∙ ap (λ k. get_or (lines_shown (text_of_cell g o.first)) k []) (omega (arith, over))
+          let over : top plan o.first.row + line_height plan o.first.row ≤ n = upper (cases_lt o.first.row (i - 1)) row in
+          ap (λ t. get_or (lines_shown t) y []) cut ∙ cut-next (get_or old j []) (text_of_cell g o.first) (n - top plan o.first.row - line_height plan o.first.row) y (was.each j o less e begin) ∙ ap (λ k. get_or (lines_shown (text_of_cell g o.first)) k []) (omega (arith, over))
         where
-          upper : (o.first.row < i - 1) ⊎ (i - 1 ≤ o.first.row) → o.first.row < i → top style g (rectangles m) o.first.row + border Rows style g o.first.row ≤ n
-          upper (inl before) row = omega (arith, top-below style g (rectangles m) o.first.row (i - 1) before, after)
-          upper (inr not) row = let same : top style g (rectangles m) o.first.row + border Rows style g o.first.row ≡ top style g (rectangles m) (i - 1) + border Rows style g (i - 1) = ap (λ k. top style g (rectangles m) k + border Rows style g k) (omega (arith, not, row)) in omega (arith, same, after)
+          upper : (o.first.row < i - 1) ⊎ (i - 1 ≤ o.first.row) → o.first.row < i → top plan o.first.row + line_height plan o.first.row ≤ n
+          upper (inl before) row = omega (arith, top-below plan o.first.row (i - 1) before, after)
+          upper (inr not) row = let same : top plan o.first.row + line_height plan o.first.row ≡ top plan (i - 1) + line_height plan (i - 1) = ap (λ k. top plan k + line_height plan k) (omega (arith, not, row)) in omega (arith, same, after)
 
   -- the line above a row, if it is drawn, and the texts that begin in it
-  pub left-next_row : (drawn : Bool) (i n : ℕ) (old cut new : List (List ℕ)) → i < g.rows → n ≡ top style g (rectangles m) i → border Rows style g i ≡ size_if drawn → AreLeft style g m i n old
+  pub left-next_row : (drawn : Bool) (i n : ℕ) (old cut new : List (List ℕ)) → i < g.rows → n ≡ top plan i → line_height plan i ≡ size_if drawn → AreLeft plan i n old
       → ((j : ℕ) → j < g.columns → get_or cut j [] ≡ cond drawn (left_of j (at i (j + 1)) (at (i + 1) (j + 1)) (get_or old j [])) (get_or old j []))
-      → ((j : ℕ) → j < g.columns → get_or new j [] ≡ begun g (at (i + 1) (j + 1)) (place i j) (get_or cut j [])) → AreLeft style g m (i + 1) (n + size_if drawn) new
-  left-next_row drawn i n old cut new high is_n size was is_cut is_new = record { each = λ j o less e begin y. by j o less e begin y (cases_lt o.first.row i) }
+      → ((j : ℕ) → j < g.columns → get_or new j [] ≡ begun g (at (i + 1) (j + 1)) (place i j) (get_or cut j [])) → AreLeft plan (i + 1) (n + size_if drawn) new
+  left-next_row drawn i n old cut new high is_n size was is_cut is_new = record { each = λ j o less e begin y. lines-left j o less e begin y (cases_lt o.first.row i) }
     where
-      by : (j : ℕ) (o : Rectangle) → j < g.columns → owner g.rows g.columns (rectangles m) (i + 1) (j + 1) ≡ Some o → o.first.col ≡ j → (y : ℕ) → (o.first.row < i) ⊎ (i ≤ o.first.row) → get_or (lines_shown (get_or new j [])) y [] ≡ get_or (lines_shown (text_of_cell g o.first)) (n + size_if drawn - top style g (rectangles m) o.first.row - border Rows style g o.first.row + y) []
-      by j o less e begin y (inr here) =
+      lines-left : (j : ℕ) (o : Rectangle) → j < g.columns → owner_at plan (i + 1) (j + 1) ≡ Some o → o.first.col ≡ j → (y : ℕ) → (o.first.row < i) ⊎ (i ≤ o.first.row) → get_or (lines_shown (get_or new j [])) y [] ≡ get_or (lines_shown (text_of_cell g o.first)) (n + size_if drawn - top plan o.first.row - line_height plan o.first.row + y) []
+      lines-left j o less e begin y (inr here) =
           let row : o.first.row ≡ i = omega (arith, here, (owns m g.rows g.columns fits (i + 1) (j + 1) o e).top) in
           let same : o.first ≡ place i j = ap₂ place row begin in
           let text : get_or new j [] ≡ text_of_cell g o.first = is_new j less ∙ ap (λ (x : Option Rectangle). begun g x (place i j) (get_or cut j [])) e ∙ cond-true _ _ _ (ap (λ q. same_place q (place i j)) same ∙ same_place-self (place i j)) ∙ ap (text_of_cell g) (sym same) in
-          let first : n + size_if drawn - top style g (rectangles m) o.first.row - border Rows style g o.first.row + y ≡ y = (let t : top style g (rectangles m) o.first.row ≡ top style g (rectangles m) i = ap (top style g (rectangles m)) row in let b : border Rows style g o.first.row ≡ size_if drawn = ap (border Rows style g) row ∙ size in omega (arith, t, b, is_n)) in
+          let first : n + size_if drawn - top plan o.first.row - line_height plan o.first.row + y ≡ y = (let t : top plan o.first.row ≡ top plan i = ap (top plan) row in let b : line_height plan o.first.row ≡ size_if drawn = ap (line_height plan) row ∙ size in omega (arith, t, b, is_n)) in
           ap (λ t. get_or (lines_shown t) y []) text ∙ ap (λ k. get_or (lines_shown (text_of_cell g o.first)) k []) (sym first)
-      by j o less e begin y (inl above) = drawn_or (cases_Bool drawn)
+      lines-left j o less e begin y (inl above) = elim (cases_Bool drawn) [
+        | inl t ↦
+            let next : get_or cut j [] ≡ after_line (get_or old j []) = is_cut j less ∙ cond-true _ _ _ t ∙ cond-false _ _ _ one ∙ cond-true _ _ _ (ap (begins j) over ∙ eq-eqb o.first.col j begin) in
+            let high : size_if drawn ≡ 1 = cond-true drawn 1 0 t in
+            ap (λ t. get_or (lines_shown t) y []) (kept ∙ next) ∙ cut-next (get_or old j []) (text_of_cell g o.first) (n - top plan o.first.row - line_height plan o.first.row) y (was.each j o less over begin) ∙ ap (λ k. get_or (lines_shown (text_of_cell g o.first)) k []) (omega (arith, low, high))
+        | inr f ↦
+            let next : get_or cut j [] ≡ get_or old j [] = is_cut j less ∙ cond-false _ _ _ f in
+            let high : size_if drawn ≡ 0 = cond-false drawn 1 0 f in
+            ap (λ t. get_or (lines_shown t) y []) (kept ∙ next) ∙ was.each j o less over begin y ∙ ap (λ k. get_or (lines_shown (text_of_cell g o.first)) k []) (omega (arith, low, high))
+      ]
         where
-          over : owner g.rows g.columns (rectangles m) i (j + 1) ≡ Some o
+          over : owner_at plan i (j + 1) ≡ Some o
           over = owner-over m g.rows g.columns fits i (j + 1) o e above
 
-          one : differ (owner g.rows g.columns (rectangles m) i (j + 1)) (owner g.rows g.columns (rectangles m) (i + 1) (j + 1)) ≡ false
+          one : differ (owner_at plan i (j + 1)) (owner_at plan (i + 1) (j + 1)) ≡ false
           one = ap₂ differ over e ∙ differ-self (Some o)
 
           kept : get_or new j [] ≡ get_or cut j []
           kept = is_new j less ∙ ap (λ (x : Option Rectangle). begun g x (place i j) (get_or cut j [])) e ∙ cond-false _ _ _ (same_place-apart o.first (place i j) (λ at. omega (arith, above, ap (λ (q : Position). q.row) at)))
 
-          low : top style g (rectangles m) o.first.row + border Rows style g o.first.row ≤ n
-          low = omega (arith, top-below style g (rectangles m) o.first.row i above, is_n)
-
-          drawn_or : (drawn ≡ true) ⊎ (drawn ≡ false) → get_or (lines_shown (get_or new j [])) y [] ≡ get_or (lines_shown (text_of_cell g o.first)) (n + size_if drawn - top style g (rectangles m) o.first.row - border Rows style g o.first.row + y) []
-          drawn_or (inl t) =
-              let next : get_or cut j [] ≡ after_line (get_or old j []) = is_cut j less ∙ cond-true _ _ _ t ∙ cond-false _ _ _ one ∙ cond-true _ _ _ (ap (begins j) over ∙ eq-eqb o.first.col j begin) in
-              let high : size_if drawn ≡ 1 = cond-true drawn 1 0 t in
-              ap (λ t. get_or (lines_shown t) y []) (kept ∙ next) ∙ cut-next (get_or old j []) (text_of_cell g o.first) (n - top style g (rectangles m) o.first.row - border Rows style g o.first.row) y (was.each j o less over begin) ∙ ap (λ k. get_or (lines_shown (text_of_cell g o.first)) k []) (omega (arith, low, high))
-          drawn_or (inr f) =
-              let next : get_or cut j [] ≡ get_or old j [] = is_cut j less ∙ cond-false _ _ _ f in
-              let high : size_if drawn ≡ 0 = cond-false drawn 1 0 f in
-              ap (λ t. get_or (lines_shown t) y []) (kept ∙ next) ∙ was.each j o less over begin y ∙ ap (λ k. get_or (lines_shown (text_of_cell g o.first)) k []) (omega (arith, low, high))
+          low : top plan o.first.row + line_height plan o.first.row ≤ n
+          low = omega (arith, top-below plan o.first.row i above, is_n)
 
 -- ---- lines as they are drawn
 
-pub end-inside : (m : SpanMap) (rows columns i : ℕ) (row : List (Option Rectangle)) → Fits m rows columns → IsOwnerRow rows columns m i row → EndInside columns row
+pub end-inside : (m : SpanMap) (rows columns i : ℕ) (row : List (Option Rectangle)) → Fits m rows columns → IsOwnerRow rows columns (rectangles m) i row → EndInside columns row
 end-inside m rows columns i row fits is = record { each = λ j o less e begin. (let there = owns m rows columns fits i (j + 1) o (sym (is.each (j + 1) (omega (arith, less))) ∙ e) in omega (arith, there.lies.right, begin)) }
 
 -- ---- lines with a newline after each
@@ -176,79 +177,83 @@ end-inside m rows columns i row fits is = record { each = λ j o less e begin. (
 pub ended-more : (xs : List (List ℕ)) (x : List ℕ) → with_newlines (xs ++ (x ∷ [])) ≡ with_newlines xs ++ (x ++ (10 ∷ []))
 ended-more xs x = flat_map-append (λ line. line ++ (10 ∷ [])) xs (x ∷ []) ∙ ap (λ ys. with_newlines xs ++ ys) (append-nil (x ++ (10 ∷ [])))
 
-module _ (style : Style) (aligns : List Alignment) (g : Grid (List ℕ)) (m : SpanMap) (fits : Fits m g.rows g.columns) (edges : List ℕ) (laid : AreEdges style g m edges) where
-  next-of : (u d n : ℕ) (texts : List (List ℕ)) → AreLeft style g m u n texts → AreNext style aligns g m fits edges laid n u d texts
+module _ (sheet : Sheet) (g : Grid (List ℕ)) (m : SpanMap) (fits : Fits m g.rows g.columns) (laid : AreEdges (plan_on sheet g m) sheet.edges.now) where
+  next-of : (u d n : ℕ) (texts : List (List ℕ)) → AreLeft (plan_on sheet g m) u n texts → AreNext sheet g m fits laid n u d texts
   unfolding AreNext
-  next-of u d n texts was j o less e begin one = was.each j o less e begin 0 ∙ ap (λ k. get_or (lines_shown (text_of_cell g o.first)) k []) (add-zero (n - top style g (rectangles m) o.first.row - border Rows style g o.first.row))
+  next-of u d n texts was j o less e begin one = was.each j o less e begin 0 ∙ ap (λ k. get_or (lines_shown (text_of_cell g o.first)) k []) (add-zero (n - top (plan_on sheet g m) o.first.row - line_height (plan_on sheet g m) o.first.row))
 
   -- the line above a row
-  between : (i n : ℕ) (above here : List (Option Rectangle)) (texts : List (List ℕ)) (columns : ℕ) → n ≡ top style g (rectangles m) i → IsOwnerRow g.rows g.columns m i above → IsOwnerRow g.rows g.columns m (i + 1) here → AreLeft style g m i n texts → columns ≡ g.columns
-      → drawn_line style aligns columns false edges above here texts ≡ picture_line style aligns g (rectangles m) (top style g (rectangles m) i) i (i + 1) ++ (10 ∷ [])
+  between : (i n : ℕ) (above here : List (Option Rectangle)) (texts : List (List ℕ)) (columns : ℕ) → n ≡ top (plan_on sheet g m) i → IsOwnerRow g.rows g.columns (rectangles m) i above → IsOwnerRow g.rows g.columns (rectangles m) (i + 1) here → AreLeft (plan_on sheet g m) i n texts → columns ≡ g.columns
+      → drawn_line sheet false above here columns texts ≡ line_at (plan_on sheet g m) sheet.look.alignments.now (top (plan_on sheet g m) i) i (i + 1) ++ (10 ∷ [])
   between i n above here texts columns is over under was same =
-      line-is style aligns g m fits edges laid n i (i + 1) false (sym (ne_eqb i (i + 1) (λ e. omega (arith, e)))) above here over under texts (next-of i (i + 1) n texts was) columns same
-      ∙ ap (λ k. picture_line style aligns g (rectangles m) k i (i + 1) ++ (10 ∷ [])) is
+      line-is sheet g m fits laid n i (i + 1) false (sym (ne_eqb i (i + 1) (λ e. omega (arith, e)))) above here over under texts (next-of i (i + 1) n texts was) columns same
+      ∙ ap (λ k. line_at (plan_on sheet g m) sheet.look.alignments.now k i (i + 1) ++ (10 ∷ [])) is
 
   -- the line above a row, if it is drawn
-  pub border-text : (i n rows : ℕ) (above here : List (Option Rectangle)) (rests : List (Bor (List ℕ))) → rows ≡ g.rows → n ≡ top style g (rectangles m) i → IsOwnerRow g.rows g.columns m i above → IsOwnerRow g.rows g.columns m (i + 1) here → AreLeft style g m i n (bytes_in rests) → length rests ≡ g.columns
-      → border_of_rests style aligns rows i edges above here rests ≡ with_newlines (border_line style aligns g (rectangles m) i)
-  border-text i n rows above here rests same is over under was long = rw same (by (cases_Bool (is_drawn style.rows g.rows i)))
+  pub border-text : (i n : ℕ) (above here : List (Option Rectangle)) (rests : List (Bor (List ℕ))) → sheet.rows ≡ g.rows → n ≡ top (plan_on sheet g m) i → IsOwnerRow g.rows g.columns (rectangles m) i above → IsOwnerRow g.rows g.columns (rectangles m) (i + 1) here → AreLeft (plan_on sheet g m) i n (bytes_in rests) → length rests ≡ g.columns
+      → drawn_border sheet i above here (length rests) (bytes_in rests) ≡ with_newlines (border_line (plan_on sheet g m) sheet.look.alignments.now i)
+  border-text i n above here rests same is over under was long =
+      ap (λ k. cond (is_drawn sheet.look.style.rows k i) written []) same
+      ∙ elim (cases_Bool (is_drawn sheet.look.style.rows g.rows i)) [
+        | inl t ↦ cond-true _ _ _ t ∙ between i n above here (bytes_in rests) (length rests) is over under was long ∙ sym (append-nil (line ++ (10 ∷ []))) ∙ ap (λ k. with_newlines (replicate k line)) (sym (cond-true _ 1 0 t))
+        | inr f ↦ cond-false _ _ _ f ∙ ap (λ k. with_newlines (replicate k line)) (sym (cond-false _ 1 0 f))
+      ]
     where
       line : List ℕ
-      line = picture_line style aligns g (rectangles m) (top style g (rectangles m) i) i (i + 1)
+      line = line_at (plan_on sheet g m) sheet.look.alignments.now (top (plan_on sheet g m) i) i (i + 1)
 
-      by : (is_drawn style.rows g.rows i ≡ true) ⊎ (is_drawn style.rows g.rows i ≡ false) → border_of_rests style aligns g.rows i edges above here rests ≡ with_newlines (replicate (cond (is_drawn style.rows g.rows i) 1 0) line)
-      by (inl t) = cond-true _ _ _ t ∙ between i n above here (bytes_in rests) (length rests) is over under was long ∙ sym (append-nil (line ++ (10 ∷ []))) ∙ ap (λ k. with_newlines (replicate k line)) (sym (cond-true _ 1 0 t))
-      by (inr f) = cond-false _ _ _ f ∙ ap (λ k. with_newlines (replicate k line)) (sym (cond-false _ 1 0 f))
+      written : List ℕ
+      written = drawn_line sheet false above here (length rests) (bytes_in rests)
 
   -- a line in a row
-  pub in-row : (i n : ℕ) (here : List (Option Rectangle)) (texts : List (List ℕ)) (columns : ℕ) → IsOwnerRow g.rows g.columns m (i + 1) here → AreLeft style g m (i + 1) n texts → columns ≡ g.columns
-      → drawn_line style aligns columns true edges here here texts ≡ picture_line style aligns g (rectangles m) n (i + 1) (i + 1) ++ (10 ∷ [])
+  pub in-row : (i n : ℕ) (here : List (Option Rectangle)) (texts : List (List ℕ)) (columns : ℕ) → IsOwnerRow g.rows g.columns (rectangles m) (i + 1) here → AreLeft (plan_on sheet g m) (i + 1) n texts → columns ≡ g.columns
+      → drawn_line sheet true here here columns texts ≡ line_at (plan_on sheet g m) sheet.look.alignments.now n (i + 1) (i + 1) ++ (10 ∷ [])
   in-row i n here texts columns over was same =
-      line-is style aligns g m fits edges laid n (i + 1) (i + 1) true (sym (eq-eqb (i + 1) (i + 1) refl)) here here over over texts (next-of (i + 1) (i + 1) n texts was) columns same
+      line-is sheet g m fits laid n (i + 1) (i + 1) true (sym (eq-eqb (i + 1) (i + 1) refl)) here here over over texts (next-of (i + 1) (i + 1) n texts was) columns same
 
-module _ (style : Style) (aligns : List Alignment) (g : Grid (List ℕ)) (es : List Rectangle) where
+module _ (plan : Plan) (aligns : List Alignment) where
   -- the lines of a row up to one of them
   abbrev pub lines_below : ℕ → ℕ → List (List ℕ)
-  lines_below i y = border_line style aligns g es i ++ each y (λ y. picture_line style aligns g es (top style g es i + border Rows style g i + y) (i + 1) (i + 1) ∷ [])
+  lines_below i y = border_line plan aligns i ++ each y (λ y. line_at plan aligns (top plan i + line_height plan i + y) (i + 1) (i + 1) ∷ [])
 
-  pub first-below : (i : ℕ) → with_newlines (border_line style aligns g es i) ≡ with_newlines (lines_below i 0)
-  first-below i = ap with_newlines (sym (append-nil (border_line style aligns g es i)))
+  pub first-below : (i : ℕ) → with_newlines (border_line plan aligns i) ≡ with_newlines (lines_below i 0)
+  first-below i = ap with_newlines (sym (append-nil (border_line plan aligns i)))
 
-  pub more-below : (i y : ℕ) → with_newlines (lines_below i y) ++ (picture_line style aligns g es (top style g es i + border Rows style g i + y) (i + 1) (i + 1) ++ (10 ∷ [])) ≡ with_newlines (lines_below i (y + 1))
+  pub more-below : (i y : ℕ) → with_newlines (lines_below i y) ++ (line_at plan aligns (top plan i + line_height plan i + y) (i + 1) (i + 1) ++ (10 ∷ [])) ≡ with_newlines (lines_below i (y + 1))
   more-below i y =
-      let f : ℕ → List (List ℕ) = λ y. picture_line style aligns g es (top style g es i + border Rows style g i + y) (i + 1) (i + 1) ∷ [] in
-      sym (ended-more (lines_below i y) (picture_line style aligns g es (top style g es i + border Rows style g i + y) (i + 1) (i + 1))) ∙ ap with_newlines (append_assoc (border_line style aligns g es i) (each y f) (f y) ∙ ap (λ ls. border_line style aligns g es i ++ ls) (sym (each-more f y)))
+      let f : ℕ → List (List ℕ) = λ y. line_at plan aligns (top plan i + line_height plan i + y) (i + 1) (i + 1) ∷ [] in
+      sym (ended-more (lines_below i y) (line_at plan aligns (top plan i + line_height plan i + y) (i + 1) (i + 1))) ∙ ap with_newlines (append_assoc (border_line plan aligns i) (each y f) (f y) ∙ ap (λ ls. border_line plan aligns i ++ ls) (sym (each-more f y)))
 
-  pub all-below : (i y : ℕ) → y ≡ get_or (heights style g es) i 0 → with_newlines (lines_below i y) ≡ with_newlines (lines_of_row style aligns g es i)
+  pub all-below : (i y : ℕ) → y ≡ get_or (heights plan) i 0 → with_newlines (lines_below i y) ≡ with_newlines (lines_of_row plan aligns i)
   all-below i y is = ap (λ k. with_newlines (lines_below i k)) is
 
-  pub more-rows : (i : ℕ) → with_newlines (each i (lines_of_row style aligns g es)) ++ with_newlines (lines_of_row style aligns g es i) ≡ with_newlines (each (i + 1) (lines_of_row style aligns g es))
-  more-rows i = sym (flat_map-append (λ line. line ++ (10 ∷ [])) (each i (lines_of_row style aligns g es)) (lines_of_row style aligns g es i)) ∙ ap with_newlines (sym (each-more (lines_of_row style aligns g es) i))
+  pub more-rows : (i : ℕ) → with_newlines (each i (lines_of_row plan aligns)) ++ with_newlines (lines_of_row plan aligns i) ≡ with_newlines (each (i + 1) (lines_of_row plan aligns))
+  more-rows i = sym (flat_map-append (λ line. line ++ (10 ∷ [])) (each i (lines_of_row plan aligns)) (lines_of_row plan aligns i)) ∙ ap with_newlines (sym (each-more (lines_of_row plan aligns) i))
 
-  pub all-rows : (i : ℕ) → i ≡ g.rows → 0 < g.rows → 0 < g.columns → with_newlines (each i (lines_of_row style aligns g es)) ++ with_newlines (border_line style aligns g es g.rows) ≡ with_newlines (picture style aligns g es)
+  pub all-rows : (i : ℕ) → i ≡ plan.grid.rows → 0 < plan.grid.rows → 0 < plan.grid.columns → with_newlines (each i (lines_of_row plan aligns)) ++ with_newlines (border_line plan aligns plan.grid.rows) ≡ with_newlines (picture_lines plan aligns)
   all-rows i is high wide =
-      ap (λ k. with_newlines (each k (lines_of_row style aligns g es)) ++ with_newlines (border_line style aligns g es g.rows)) is
-      ∙ sym (flat_map-append (λ line. line ++ (10 ∷ [])) (each g.rows (lines_of_row style aligns g es)) (border_line style aligns g es g.rows))
-      ∙ ap with_newlines (sym (cond-false ((g.rows == 0) || (g.columns == 0)) [] (each g.rows (lines_of_row style aligns g es) ++ border_line style aligns g es g.rows) (ap₂ (λ x y. x || y) (ne_eqb g.rows 0 (λ e. omega (arith, e))) (ne_eqb g.columns 0 (λ e. omega (arith, e))))))
+      ap (λ k. with_newlines (each k (lines_of_row plan aligns)) ++ with_newlines (border_line plan aligns plan.grid.rows)) is
+      ∙ sym (flat_map-append (λ line. line ++ (10 ∷ [])) (each plan.grid.rows (lines_of_row plan aligns)) (border_line plan aligns plan.grid.rows))
+      ∙ ap with_newlines (sym (cond-false ((plan.grid.rows == 0) || (plan.grid.columns == 0)) [] (each plan.grid.rows (lines_of_row plan aligns) ++ border_line plan aligns plan.grid.rows) (ap₂ (λ x y. x || y) (ne_eqb plan.grid.rows 0 (λ e. omega (arith, e))) (ne_eqb plan.grid.columns 0 (λ e. omega (arith, e))))))
 
   -- some rows, and those behind them
-  later-rows : (k i : ℕ) → (rest : List ℕ) × (with_newlines (each i (lines_of_row style aligns g es)) ++ rest ≡ with_newlines (each (i + k) (lines_of_row style aligns g es)))
-  later-rows zero i = ([], append-nil (with_newlines (each i (lines_of_row style aligns g es))) ∙ ap (λ n. with_newlines (each n (lines_of_row style aligns g es))) (sym (add-zero i)))
+  later-rows : (k i : ℕ) → (rest : List ℕ) × (with_newlines (each i (lines_of_row plan aligns)) ++ rest ≡ with_newlines (each (i + k) (lines_of_row plan aligns)))
+  later-rows zero i = ([], append-nil (with_newlines (each i (lines_of_row plan aligns))) ∙ ap (λ n. with_newlines (each n (lines_of_row plan aligns))) (sym (add-zero i)))
   later-rows (suc k) i =
       let more = later-rows k i in
       let next : (i + k) + 1 ≡ i + suc k = omega arith in (
-        more.0 ++ with_newlines (lines_of_row style aligns g es (i + k)),
-        sym (append_assoc (with_newlines (each i (lines_of_row style aligns g es))) more.0 (with_newlines (lines_of_row style aligns g es (i + k))))
-            ∙ ap (λ (l : List ℕ). l ++ with_newlines (lines_of_row style aligns g es (i + k))) more.1 ∙ more-rows (i + k)
-            ∙ ap (λ n. with_newlines (each n (lines_of_row style aligns g es))) next,
+        more.0 ++ with_newlines (lines_of_row plan aligns (i + k)),
+        sym (append_assoc (with_newlines (each i (lines_of_row plan aligns))) more.0 (with_newlines (lines_of_row plan aligns (i + k))))
+            ∙ ap (λ (l : List ℕ). l ++ with_newlines (lines_of_row plan aligns (i + k))) more.1 ∙ more-rows (i + k)
+            ∙ ap (λ n. with_newlines (each n (lines_of_row plan aligns))) next,
       )
 
   -- what a picture has behind some of its rows
-  pub rest-of : (i : ℕ) → i ≤ g.rows → 0 < g.rows → 0 < g.columns → (rest : List ℕ) × (with_newlines (each i (lines_of_row style aligns g es)) ++ rest ≡ with_newlines (picture style aligns g es))
+  pub rest-of : (i : ℕ) → i ≤ plan.grid.rows → 0 < plan.grid.rows → 0 < plan.grid.columns → (rest : List ℕ) × (with_newlines (each i (lines_of_row plan aligns)) ++ rest ≡ with_newlines (picture_lines plan aligns))
   rest-of i within high wide =
-      let more = later-rows (g.rows - i) i in
-      let all : i + (g.rows - i) ≡ g.rows = omega (arith, within) in (
-        more.0 ++ with_newlines (border_line style aligns g es g.rows),
-        sym (append_assoc (with_newlines (each i (lines_of_row style aligns g es))) more.0 (with_newlines (border_line style aligns g es g.rows)))
-            ∙ ap (λ (l : List ℕ). l ++ with_newlines (border_line style aligns g es g.rows)) more.1 ∙ all-rows (i + (g.rows - i)) all high wide,
+      let more = later-rows (plan.grid.rows - i) i in
+      let all : i + (plan.grid.rows - i) ≡ plan.grid.rows = omega (arith, within) in (
+        more.0 ++ with_newlines (border_line plan aligns plan.grid.rows),
+        sym (append_assoc (with_newlines (each i (lines_of_row plan aligns))) more.0 (with_newlines (border_line plan aligns plan.grid.rows)))
+            ∙ ap (λ (l : List ℕ). l ++ with_newlines (border_line plan aligns plan.grid.rows)) more.1 ∙ all-rows (i + (plan.grid.rows - i)) all high wide,
       )

@@ -1,5 +1,5 @@
 -- Sizes that grow by what is lacking.
-use Rattle.tabled_draw.proofs.Common.{List, pad, ◌+◌, ◌-◌, ◌*◌, ◌/◌, ◌%◌, ◌<◌, ◌==◌, ◌∙◌, ◌≡◌, ◌≢◌, ◌≤◌, ◌⊎◌, add-one, add-zero, add_assoc, ap, ap₂, arith, cases_eq, cases_lt, common_steps, cond, cond-false, ext_get_or, false, get_or, get_or-set_other, get_or-set_same, get_or_past, grown_sizes, inl, inr, is_in_range, length, length-set, nat_tests, refl, room, set, share, start_of, subst, suc, sym, zero, ℕ}
+use Rattle.tabled_draw.proofs.Common.{List, add-one, add-zero, add_assoc, ap, ap₂, arith, cases_eq, cases_lt, common_steps, cond, cond-false, ext_get_or, false, get_or, get_or-set_other, get_or-set_same, get_or_past, grown_sizes, inl, inr, is_in_range, length, length-set, nat_tests, pad, refl, room, set, share, start_of, subst, suc, sym, zero, ℕ, ◌%◌, ◌*◌, ◌+◌, ◌-◌, ◌/◌, ◌<◌, ◌==◌, ◌∙◌, ◌≡◌, ◌≢◌, ◌≤◌, ◌⊎◌}
 use Rattle.std.proofs.Math.Nat.{div-add-mod}
 use Rattle.tabled_draw.proofs.Each.{get-singles, length-singles}
 use Rattle.tabled_grid.specs.declared.records.axis.Axis.{Axis}
@@ -124,11 +124,7 @@ module _ (axis : Axis) (lines : ℕ → ℕ) (s : List ℕ) (at n need : ℕ) wh
   get-grown k h = get-singles (λ k. get_or s k 0 + share (need - room axis lines s at n) at n k) (length s) k 0 h
 
   pub grown-larger : Larger s (grown_sizes axis lines s at n need)
-  grown-larger = record { long = length-grown; each = λ k. by k (cases_lt k (length s)) }
-    where
-      by : (k : ℕ) → (k < length s) ⊎ (length s ≤ k) → get_or s k 0 ≤ get_or (grown_sizes axis lines s at n need) k 0
-      by k (inl less) = omega (arith, get-grown k less)
-      by k (inr past) = omega (arith, get_or_past s k 0 past)
+  grown-larger = record { long = length-grown; each = λ k. elim (cases_lt k (length s)) [ inl less ↦ omega (arith, get-grown k less) | inr past ↦ omega (arith, get_or_past s k 0 past) ] }
 
   -- the first j of n sizes have got their shares
   span-grown : (j : ℕ) → j < n → at + n ≤ length s → span axis lines (grown_sizes axis lines s at n need) at (suc j) ≡ span axis lines s at (suc j) + times (suc j) ((need - room axis lines s at n) / n) + (need - room axis lines s at n) % n
@@ -145,11 +141,11 @@ module _ (axis : Axis) (lines : ℕ → ℕ) (s : List ℕ) (at n need : ℕ) wh
 
   -- sizes that have grown by what they lack have room enough
   pub grown-enough : 1 ≤ n → at + n ≤ length s → need ≤ span axis lines (grown_sizes axis lines s at n need) at n - lines at - pad axis
-  grown-enough some inside = by n refl some
+  grown-enough some inside = enough-of n refl some
     where
-      by : (m : ℕ) → n ≡ m → 1 ≤ m → need ≤ span axis lines (grown_sizes axis lines s at n need) at n - lines at - pad axis
-      by zero is h = absurd (omega arith)
-      by (suc j) is h =
+      enough-of : (m : ℕ) → n ≡ m → 1 ≤ m → need ≤ span axis lines (grown_sizes axis lines s at n need) at n - lines at - pad axis
+      enough-of zero is h = absurd (omega arith)
+      enough-of (suc j) is h =
           let lack : ℕ = need - room axis lines s at n in
           let all : span axis lines (grown_sizes axis lines s at n need) at n ≡ span axis lines s at n + times n (lack / n) + lack % n = subst (λ m. span axis lines (grown_sizes axis lines s at n need) at m ≡ span axis lines s at m + times m (lack / n) + lack % n) (sym is) (span-grown j (omega arith) inside) in
           let shares : times n (lack / n) + lack % n ≡ lack = all-shares lack n in
@@ -171,24 +167,23 @@ module _ (axis : Axis) (lines : ℕ → ℕ) (s : List ℕ) (k : ℕ) where
   span-without : (at n : ℕ) → k < length s → at ≤ k → k < at + n → span axis lines s at n ≡ span axis lines (set s k 0) at n + get_or s k 0
   unfolding span
   span-without at zero inside low high = absurd (omega arith)
-  span-without at (suc n) inside low high = by (cases_eq k (at + n)) (λ less. span-without at n inside low less)
+  span-without at (suc n) inside low high = elim (cases_eq k (at + n)) [
+    | inl same ↦
+        let before : span axis lines s at n ≡ span axis lines (set s k 0) at n = span-before at n (omega arith) in
+        let none : get_or (set s k 0) (at + n) 0 ≡ 0 = ap (get-at (set s k 0)) (sym same) ∙ get_or-set_same s k 0 0 inside in
+        let here : get_or s (at + n) 0 ≡ get_or s k 0 = ap (get-at s) (sym same) in
+        omega arith
+    | inr other ↦
+        let before : span axis lines s at n ≡ span axis lines (set s k 0) at n + get_or s k 0 = span-without at n inside low (lt-from other) in
+        let same : get_or (set s k 0) (at + n) 0 ≡ get_or s (at + n) 0 = get_or-set_other s k (at + n) 0 0 (λ e. other (sym e)) in
+        omega arith
+  ]
     where
       get-at : List ℕ → ℕ → ℕ
       get-at xs i = get_or xs i 0
 
       lt-from : k ≢ at + n → k < at + n
       lt-from other = grind (arith, nat_tests)
-
-      by : (k ≡ at + n) ⊎ (k ≢ at + n) → (k < at + n → span axis lines s at n ≡ span axis lines (set s k 0) at n + get_or s k 0) → span axis lines s at n + (lines (at + n) + get_or s (at + n) 0 + pad axis) ≡ span axis lines (set s k 0) at n + (lines (at + n) + get_or (set s k 0) (at + n) 0 + pad axis) + get_or s k 0
-      by (inl same) go =
-          let before : span axis lines s at n ≡ span axis lines (set s k 0) at n = span-before at n (omega arith) in
-          let none : get_or (set s k 0) (at + n) 0 ≡ 0 = ap (get-at (set s k 0)) (sym same) ∙ get_or-set_same s k 0 0 inside in
-          let here : get_or s (at + n) 0 ≡ get_or s k 0 = ap (get-at s) (sym same) in
-          omega arith
-      by (inr other) go =
-          let before : span axis lines s at n ≡ span axis lines (set s k 0) at n + get_or s k 0 = go (lt-from other) in
-          let same : get_or (set s k 0) (at + n) 0 ≡ get_or s (at + n) 0 = get_or-set_other s k (at + n) 0 0 (λ e. other (sym e)) in
-          omega arith
 
   -- a room, as far as it doesn't come from one of its sizes
   pub room-without : (at n : ℕ) → k < length s → at ≤ k → k < at + n → room axis lines s at n ≡ room axis lines (set s k 0) at n + get_or s k 0
@@ -202,12 +197,12 @@ module _ (axis : Axis) (lines : ℕ → ℕ) (s : List ℕ) (k : ℕ) where
   without-larger : (t : List ℕ) → Larger s t → Larger (set s k 0) (set t k 0)
   without-larger t larger = record {
     long = length-set t k 0 ∙ larger.long ∙ sym (length-set s k 0);
-    each = λ i. by i (cases_eq i k);
+    each = λ i. larger-at i (cases_eq i k);
   }
     where
-      by : (i : ℕ) → (i ≡ k) ⊎ (i ≢ k) → get_or (set s k 0) i 0 ≤ get_or (set t k 0) i 0
-      by i (inr other) = omega (arith, get_or-set_other s k i 0 0 other, get_or-set_other t k i 0 0 other, larger.each i)
-      by i (inl same) = within i same (cases_lt k (length s))
+      larger-at : (i : ℕ) → (i ≡ k) ⊎ (i ≢ k) → get_or (set s k 0) i 0 ≤ get_or (set t k 0) i 0
+      larger-at i (inr other) = omega (arith, get_or-set_other s k i 0 0 other, get_or-set_other t k i 0 0 other, larger.each i)
+      larger-at i (inl same) = within i same (cases_lt k (length s))
         where
           within : (i : ℕ) → i ≡ k → (k < length s) ⊎ (length s ≤ k) → get_or (set s k 0) i 0 ≤ get_or (set t k 0) i 0
           within i same (inl less) =
@@ -233,7 +228,13 @@ spread-none old at q i = omega (arith, none)
     none = grind (arith, nat_tests)
 
 pub spread-more : (old s : List ℕ) (at k q v : ℕ) → at ≤ k → k < length s → ((i : ℕ) → get_or s i 0 ≡ get_or old i 0 + cond (is_in_range i at (k - at)) q 0) → v ≡ get_or s k 0 + q → (i : ℕ) → get_or (set s k v) i 0 ≡ get_or old i 0 + cond (is_in_range i at (k + 1 - at)) q 0
-spread-more old s at k q v low inside was is i = by (cases_eq i k)
+spread-more old s at k q v low inside was is i = elim (cases_eq i k) [
+  | inl same ↦
+      let set-here : get_or (set s k v) k 0 ≡ v = get_or-set_same s k v 0 inside in
+      let all : get_or (set s k v) k 0 ≡ get_or old k 0 + cond (is_in_range k at (k + 1 - at)) q 0 = omega (arith, set-here, was k, here, now, is) in
+      subst (λ j. get_or (set s k v) j 0 ≡ get_or old j 0 + cond (is_in_range j at (k + 1 - at)) q 0) (sym same) all
+  | inr other ↦ omega (arith, get_or-set_other s k i v 0 other, was i, apart other)
+]
   where
     here : cond (is_in_range k at (k - at)) q 0 ≡ 0
     here = grind (arith, nat_tests)
@@ -243,13 +244,6 @@ spread-more old s at k q v low inside was is i = by (cases_eq i k)
 
     apart : i ≢ k → cond (is_in_range i at (k + 1 - at)) q 0 ≡ cond (is_in_range i at (k - at)) q 0
     apart other = grind (arith, nat_tests)
-
-    by : (i ≡ k) ⊎ (i ≢ k) → get_or (set s k v) i 0 ≡ get_or old i 0 + cond (is_in_range i at (k + 1 - at)) q 0
-    by (inl same) =
-        let set-here : get_or (set s k v) k 0 ≡ v = get_or-set_same s k v 0 inside in
-        let all : get_or (set s k v) k 0 ≡ get_or old k 0 + cond (is_in_range k at (k + 1 - at)) q 0 = omega (arith, set-here, was k, here, now, is) in
-        subst (λ j. get_or (set s k v) j 0 ≡ get_or old j 0 + cond (is_in_range j at (k + 1 - at)) q 0) (sym same) all
-    by (inr other) = omega (arith, get_or-set_other s k i v 0 other, was i, apart other)
 
 pub spread-all : (axis : Axis) (lines : ℕ → ℕ) (old s : List ℕ) (at n need lack q r v : ℕ) → lack ≡ need - room axis lines old at n → q ≡ lack / n → r ≡ lack % n → 1 ≤ n → at + n ≤ length old → length s ≡ length old → ((i : ℕ) → get_or s i 0 ≡ get_or old i 0 + cond (is_in_range i at n) q 0) → v ≡ get_or s at 0 + r → set s at v ≡ grown_sizes axis lines old at n need
 unfolding shared
@@ -270,9 +264,10 @@ spread-all axis lines old s at n need lack q r v lacks one rest some inside long
     here : get_or (set s at v) at 0 ≡ get_or old at 0 + shared q r at n at
     here = omega (arith, get_or-set_same s at v 0 (omega (arith, inside, long, some)), was at, first, shared-at, is)
 
-    by : (i : ℕ) → (i ≡ at) ⊎ (i ≢ at) → get_or (set s at v) i 0 ≡ get_or old i 0 + shared q r at n i
-    by i (inl same) = subst (λ j. get_or (set s at v) j 0 ≡ get_or old j 0 + shared q r at n j) (sym same) here
-    by i (inr other) = omega (arith, get_or-set_other s at i v 0 other, was i, shared-apart i other)
-
     same : (i : ℕ) → i < length old → get_or (set s at v) i 0 ≡ get_or (grown_sizes axis lines old at n need) i 0
-    same i h = by i (cases_eq i at) ∙ ap (λ x. get_or old i 0 + x) (sym (parts i)) ∙ sym (get-grown axis lines old at n need i h)
+    same i h =
+        let grown : get_or (set s at v) i 0 ≡ get_or old i 0 + shared q r at n i = elim (cases_eq i at) [
+          | inl first_one ↦ subst (λ j. get_or (set s at v) j 0 ≡ get_or old j 0 + shared q r at n j) (sym first_one) here
+          | inr other ↦ omega (arith, get_or-set_other s at i v 0 other, was i, shared-apart i other)
+        ] in
+        grown ∙ ap (λ x. get_or old i 0 + x) (sym (parts i)) ∙ sym (get-grown axis lines old at n need i h)

@@ -1,7 +1,7 @@
 -- Rows of texts that are made one after another.
 use Rattle.std.proofs.lemmas.List.{map-append}
 use Rattle.std.specs.Global.{Vec}
-use Rattle.tabled_draw.proofs.Common.{[], ◌++◌, ◌+◌, ◌∙◌, ◌∷◌, ◌≡◌, Grid, List, SpanMap, all-append, ap, ap₂, each, fitting, keep_fitting, length, map, rectangles, subst, sym, ℕ}
+use Rattle.tabled_draw.proofs.Common.{Grid, List, SpanMap, [], all-append, ap, ap₂, each, fitting, keep_fitting, length, map, rectangles, subst, sym, ℕ, ◌++◌, ◌+◌, ◌∙◌, ◌∷◌, ◌≡◌}
 use Rattle.tabled_draw.proofs.Each.{each-more}
 use Rattle.tabled_draw.proofs.Fitting.{kept-rectangles}
 use Rattle.tabled_draw.specs.Markdown.{rows_apart}

@@ -1,11 +1,11 @@
 -- Columns are as wide, and rows as high, as what they show asks.
-use Rattle.tabled_draw.proofs.Common.{[], Alignment, Style, border, line_size, pad, ◌+◌, ◌-◌, ◌<◌, ◌∙◌, ◌∷◌, ◌≡◌, ◌≢◌, ◌≤◌, ◌⊎◌, ASCII, AllByRecursion, AreEdges, AreNoLargerThanAsked, Columns, Fits, Grid, List, Measured, Member, Option, Position, Rectangle, Rows, Size, Some, SpanMap, across, and_from, ap, ap₂, arith, asks, by_number, cases_Bool, cases_eq, cases_lt, cell_at, cond, cond-false, cond-true, count_along, each, rectangles, eqb, ext_get_or, false, fold, fold-append, get_or, get_or-replicate, get_or-set_other, get_or-set_same, get_or_past, grown_for, in_order, grown_sizes, inl, inr, is_before, lacking, largest, least, length, length-replicate, length-set, line_of, lines_in, map_grid, max, most_asked, nat_tests, own, own_sizes, owner_in, place, place_in, raised, refl, replicate, room, same_place, same_place-self, set, share, sized, start_of, subst, suc, sym, take, take_more, takes, text_of_cell, text_width, true, unwrap_or, widths, zero, ℕ}
+use Rattle.tabled_draw.proofs.Common.{ASCII, Alignment, AllByRecursion, AreEdges, AreNoLargerThanAsked, Columns, Fits, Grid, List, Measured, Member, Option, Plan, Position, Rectangle, Rows, Size, Some, SpanMap, Style, [], across, and_from, ap, ap₂, arith, asks, border, by_number, cases_Bool, cases_eq, cases_lt, cell_at, cond, cond-false, cond-true, count_along, each, eqb, ext_get_or, fold, fold-append, get_or, get_or-replicate, get_or-set_other, get_or-set_same, get_or_past, grown_for, grown_sizes, in_order, inl, inr, is_before, lacking, largest, least, length, length-replicate, length-set, line_of, line_size, lines_in, map_grid, max, most_asked, nat_tests, own, own_sizes, owner_in, pad, place, place_in, plan_of, raised, rectangles, refl, replicate, room, same_place, same_place-self, set, share, sized, start_of, subst, suc, sym, take, take_more, takes, text_of_cell, text_width, true, unwrap_or, zero, ℕ, ◌+◌, ◌-◌, ◌<◌, ◌∙◌, ◌∷◌, ◌≡◌, ◌≢◌, ◌≤◌, ◌⊎◌}
 use Rattle.tabled_draw.proofs.Each.{get-singles, length-singles}
 use Rattle.tabled_draw.proofs.Order.{all-of, member-ordered, ordered-member}
 use Rattle.tabled_draw.proofs.Widths.{columns-nil}
 use Rattle.tabled_draw.proofs.Shares.{Larger, get-grown, grown-enough, grown-larger, larger-trans, room-larger, room-one, room-span, room-without, share-low, share-outside, span, span-larger, start-more}
 use Rattle.tabled_draw.proofs.Before.{after-next, before-from, before-next, before-none, before-row, cases_before, after-from, here-next}
-use Rattle.tabled_draw.proofs.Owned.{LieWell, LiesIn, Owned, owned, member-at, fits-well}
+use Rattle.tabled_draw.proofs.Owned.{LieWell, LiesIn, owned, member-at, fits-well}
 use Rattle.tabled_draw.proofs.Owned.Owned.{alone, held}
 use Rattle.tabled_draw.specs.Sizes.{sizes}
 use Rattle.tabled_grid.proofs.PiecePlaces.{place_is}
@@ -90,7 +90,25 @@ module _ (axis : Axis) (style : Style) (g : Grid (List ℕ)) where
     -- each owner has as much room as its text asks
     pub room-enough : LieWell g.rows g.columns es → (p : Position) → p.row < g.rows → p.col < g.columns → asks axis (text_of_cell g (owner_in es p).first) ≤ room axis (border axis style g) (sizes axis style g es) (line_of axis (owner_in es p).first) (lines_in axis (owner_in es p).size)
     unfolding sizes own-size
-    room-enough well p low far = by (owned es p)
+    room-enough well p low far = elim (owned es p) [
+      | held m h ↦
+          let enough : asks axis (text_of_cell g o.first) ≤ span axis (border axis style g) (sizes axis style g es) (line_of axis o.first) (lines_in axis o.size) - border axis style g (line_of axis o.first) - pad axis = fold-enough (in_order axis g es) base (lie-among well) o (in-order well o m) in
+          let r : room axis (border axis style g) (sizes axis style g es) (line_of axis o.first) (lines_in axis o.size) ≡ span axis (border axis style g) (sizes axis style g es) (line_of axis o.first) (lines_in axis o.size) - border axis style g (line_of axis o.first) - pad axis = room-span axis (border axis style g) (sizes axis style g es) (line_of axis o.first) (lines_in axis o.size) in
+          omega arith
+      | alone is never ↦
+          let one : lines_in axis o.size ≡ 1 = ap (λ (x : Rectangle). lines_in axis x.size) is ∙ one_line axis in
+          let asked : own axis g es p ≡ asks axis (text_of_cell g p) = cond-true _ _ _ (and_from _ _ (ap (λ (x : Rectangle). same_place x.first p) is ∙ same_place-self p) (ap (λ n. eqb n 1) one)) in
+          let i = line_of axis p in
+          let j = line_of (across axis) p in
+          let there : own axis g es (place_in axis i j) ≡ own axis g es p = ap (own axis g es) (place_is axis p) in
+          let f : ℕ → ℕ = λ k. own axis g es (place_in axis i k) in
+          let reached : own axis g es (place_in axis i j) ≤ largest (least axis) (count_along (across axis) g) f = largest-least (least axis) f (count_along (across axis) g) j (line_below (across axis)) in
+          let at : get_or base i 0 ≡ own-size axis g es i = get-singles (own-size axis g es) (count_along axis g) i 0 (line_below axis) in
+          let more : get_or base i 0 ≤ get_or (sizes axis style g es) i 0 = larger.each i in
+          let e : room axis (border axis style g) (sizes axis style g es) i 1 ≡ get_or (sizes axis style g es) i 0 = room-one axis (border axis style g) (sizes axis style g es) i in
+          let enough : asks axis (text_of_cell g p) ≤ room axis (border axis style g) (sizes axis style g es) i 1 = omega arith in
+          rw (is, one_line axis) enough
+    ]
       where
         o : Rectangle
         o = owner_in es p
@@ -103,25 +121,6 @@ module _ (axis : Axis) (style : Style) (g : Grid (List ℕ)) where
 
         line_below : (a : Axis) → line_of a p < count_along a g
         line_below a = grind (arith, nat_tests)
-
-        by : Owned es p o → asks axis (text_of_cell g o.first) ≤ room axis (border axis style g) (sizes axis style g es) (line_of axis o.first) (lines_in axis o.size)
-        by (held m h) =
-            let enough : asks axis (text_of_cell g o.first) ≤ span axis (border axis style g) (sizes axis style g es) (line_of axis o.first) (lines_in axis o.size) - border axis style g (line_of axis o.first) - pad axis = fold-enough (in_order axis g es) base (lie-among well) o (in-order well o m) in
-            let r : room axis (border axis style g) (sizes axis style g es) (line_of axis o.first) (lines_in axis o.size) ≡ span axis (border axis style g) (sizes axis style g es) (line_of axis o.first) (lines_in axis o.size) - border axis style g (line_of axis o.first) - pad axis = room-span axis (border axis style g) (sizes axis style g es) (line_of axis o.first) (lines_in axis o.size) in
-            omega arith
-        by (alone is never) =
-            let one : lines_in axis o.size ≡ 1 = ap (λ (x : Rectangle). lines_in axis x.size) is ∙ one_line axis in
-            let asked : own axis g es p ≡ asks axis (text_of_cell g p) = cond-true _ _ _ (and_from _ _ (ap (λ (x : Rectangle). same_place x.first p) is ∙ same_place-self p) (ap (λ n. eqb n 1) one)) in
-            let i = line_of axis p in
-            let j = line_of (across axis) p in
-            let there : own axis g es (place_in axis i j) ≡ own axis g es p = ap (own axis g es) (place_is axis p) in
-            let f : ℕ → ℕ = λ k. own axis g es (place_in axis i k) in
-            let reached : own axis g es (place_in axis i j) ≤ largest (least axis) (count_along (across axis) g) f = largest-least (least axis) f (count_along (across axis) g) j (line_below (across axis)) in
-            let at : get_or base i 0 ≡ own-size axis g es i = get-singles (own-size axis g es) (count_along axis g) i 0 (line_below axis) in
-            let more : get_or base i 0 ≤ get_or (sizes axis style g es) i 0 = larger.each i in
-            let e : room axis (border axis style g) (sizes axis style g es) i 1 ≡ get_or (sizes axis style g es) i 0 = room-one axis (border axis style g) (sizes axis style g es) i in
-            let enough : asks axis (text_of_cell g p) ≤ room axis (border axis style g) (sizes axis style g es) i 1 = omega arith in
-            rw (is, one_line axis) enough
 
     -- a row or column is as large as is asked of it whatever stands there
     least-size : (k : ℕ) → k < count_along axis g → least axis ≤ get_or (sizes axis style g es) k 0
@@ -154,7 +153,18 @@ module _ (axis : Axis) (style : Style) (g : Grid (List ℕ)) where
 
       -- a size that grows for a merged cell is no larger than what is lacking beside the others
       grown-low : (s : List ℕ) (e : Rectangle) (much : ℕ) → Larger (own_sizes axis g es) s → 1 ≤ lines_in axis e.size → line_of axis e.first + lines_in axis e.size ≤ length s → (takes axis k e ≡ true → lacking axis style g es k e ≤ much) → get_or s k 0 ≤ much → get_or (grown_for axis style g s e) k 0 ≤ much
-      grown-low s e much larger some inside enough low = by (cases_lt k (length s)) (cases_Bool (takes axis k e))
+      grown-low s e much larger some inside enough low = elim (cases_lt k (length s)) [
+        | inl less ↦ elim (cases_Bool (takes axis k e)) [
+          | inl t ↦ rw (get-grown axis (border axis style g) s (line_of axis e.first) (lines_in axis e.size) (asks axis (text_of_cell g e.first)) k less) (taken less t)
+          | inr f ↦
+              let now : get_or (grown_for axis style g s e) k 0 ≡ get_or s k 0 + share (asks axis (text_of_cell g e.first) - room axis (border axis style g) s (line_of axis e.first) (lines_in axis e.size)) (line_of axis e.first) (lines_in axis e.size) k = get-grown axis (border axis style g) s (line_of axis e.first) (lines_in axis e.size) (asks axis (text_of_cell g e.first)) k less in
+              let none : share (asks axis (text_of_cell g e.first) - room axis (border axis style g) s (line_of axis e.first) (lines_in axis e.size)) (line_of axis e.first) (lines_in axis e.size) k ≡ 0 = share-outside (asks axis (text_of_cell g e.first) - room axis (border axis style g) s (line_of axis e.first) (lines_in axis e.size)) (line_of axis e.first) (lines_in axis e.size) k f in
+              omega arith
+        ]
+        | inr past ↦
+            let none : get_or (grown_for axis style g s e) k 0 ≡ 0 = get_or_past (grown_for axis style g s e) k 0 (omega (arith, (larger-for s e).long, past)) in
+            omega arith
+      ]
         where
           at : ℕ
           at = line_of axis e.first
@@ -181,16 +191,6 @@ module _ (axis : Axis) (style : Style) (g : Grid (List ℕ)) where
               let most : asks axis (text_of_cell g e.first) - room axis (border axis style g) (set base k 0) (line_of axis e.first) (lines_in axis e.size) ≤ much = enough t in
               omega arith
 
-          by : (k < length s) ⊎ (length s ≤ k) → (takes axis k e ≡ true) ⊎ (takes axis k e ≡ false) → get_or (grown_for axis style g s e) k 0 ≤ much
-          by (inl less) (inl t) = rw (get-grown axis (border axis style g) s (line_of axis e.first) (lines_in axis e.size) (asks axis (text_of_cell g e.first)) k less) (taken less t)
-          by (inl less) (inr f) =
-              let now : get_or (grown_for axis style g s e) k 0 ≡ get_or s k 0 + share (asks axis (text_of_cell g e.first) - room axis (border axis style g) s (line_of axis e.first) (lines_in axis e.size)) (line_of axis e.first) (lines_in axis e.size) k = get-grown axis (border axis style g) s (line_of axis e.first) (lines_in axis e.size) (asks axis (text_of_cell g e.first)) k less in
-              let none : share (asks axis (text_of_cell g e.first) - room axis (border axis style g) s (line_of axis e.first) (lines_in axis e.size)) (line_of axis e.first) (lines_in axis e.size) k ≡ 0 = share-outside (asks axis (text_of_cell g e.first) - room axis (border axis style g) s (line_of axis e.first) (lines_in axis e.size)) (line_of axis e.first) (lines_in axis e.size) k f in
-              omega arith
-          by (inr past) _ =
-              let none : get_or (grown_for axis style g s e) k 0 ≡ 0 = get_or_past (grown_for axis style g s e) k 0 (omega (arith, (larger-for s e).long, past)) in
-              omega arith
-
       fold-low : (xs : List Rectangle) (s : List ℕ) (much : ℕ) → Larger (own_sizes axis g es) s → LieAmong s xs → ((e : Rectangle) → Member e xs → takes axis k e ≡ true → lacking axis style g es k e ≤ much) → get_or s k 0 ≤ much → get_or (fold (grown_for axis style g) s xs) k 0 ≤ much
       unfolding LieAmong
       fold-low [] s much larger all enough low = low
@@ -209,8 +209,8 @@ module _ (axis : Axis) (style : Style) (g : Grid (List ℕ)) where
 pub row-line : (style : Style) (g : Grid (List ℕ)) (es : List Rectangle) (i : ℕ) → i < g.rows → 1 ≤ get_or (sizes Rows style g es) i 0
 row-line style g es i h = least-size Rows style g es i h
 
-pub no-larger : (style : Style) (aligns : List Alignment) (g : Grid (List ℕ)) (es : List Rectangle) → LieWell g.rows g.columns es → AreNoLargerThanAsked style aligns g es
-no-larger style aligns g es well axis k = low-sizes axis style g es k well
+pub no-larger : (plan : Plan) (aligns : List Alignment) → LieWell plan.grid.rows plan.grid.columns plan.merged → AreNoLargerThanAsked plan aligns
+no-larger plan aligns well axis k = low-sizes axis plan.style plan.grid plan.merged k well
 
 -- a line of a text is no wider than the text
 most-least : (lines : List (List ℕ)) (a : ℕ) → a ≤ fold (λ most line. max most (text_width line)) a lines
@@ -343,15 +343,15 @@ module _ (axis : Axis) (g : Grid (List ℕ)) (es : List Rectangle) where
     unfolding asked_at p line
     measured-more new is = record {
       long = ap length is ∙ length-set sizes line _ ∙ was.long;
-      each = λ k less. ap (λ (xs : List ℕ). get_or xs k 0) is ∙ by k less (cases_eq k line);
+      each = λ k less. ap (λ (xs : List ℕ). get_or xs k 0) is ∙ asked-at-place k less (cases_eq k line);
     }
       where
         apart : (k : ℕ) → k < count_along axis g → k ≢ line → get_or (set sizes line (max (get_or sizes line 0) (own axis g es p))) k 0 ≡ largest (least axis) (count_along (across axis) g) (asked_at i (j + 1) k)
         apart k less ne = get_or-set_other sizes line k _ 0 ne ∙ was.each k less ∙ (largest-same (least axis) (asked_at i j k) (asked_at i (j + 1) k) (count_along (across axis) g) (λ x within. sym (other k x (λ e. ne (in-line axis k x p e).0))))
 
-        by : (k : ℕ) → k < count_along axis g → (k ≡ line) ⊎ (k ≢ line) → get_or (set sizes line (max (get_or sizes line 0) (own axis g es p))) k 0 ≡ largest (least axis) (count_along (across axis) g) (asked_at i (j + 1) k)
-        by k less (inr ne) = apart k less ne
-        by k less (inl same) =
+        asked-at-place : (k : ℕ) → k < count_along axis g → (k ≡ line) ⊎ (k ≢ line) → get_or (set sizes line (max (get_or sizes line 0) (own axis g es p))) k 0 ≡ largest (least axis) (count_along (across axis) g) (asked_at i (j + 1) k)
+        asked-at-place k less (inr ne) = apart k less ne
+        asked-at-place k less (inl same) =
             let within : line < length sizes = omega (arith, was.long, line-within axis g i j h w) in
             ap (λ z. get_or (set sizes line (max (get_or sizes line 0) (own axis g es p))) z 0) same ∙ get_or-set_same sizes line _ 0 within
             ∙ ap (λ a. max a (own axis g es p)) (was.each line (line-within axis g i j h w)) ∙ sym here ∙ ap (λ z. largest (least axis) (count_along (across axis) g) (asked_at i (j + 1) z)) (sym same)
@@ -370,7 +370,7 @@ module _ (axis : Axis) (g : Grid (List ℕ)) (es : List Rectangle) where
   pub own-long : (s : List ℕ) → s ≡ own_sizes axis g es → length s ≡ count_along axis g
   own-long s is = ap length is ∙ length-own axis g es
 
-pub edges-of : (style : Style) (g : Grid (List ℕ)) (m : SpanMap) (ws edges : List ℕ) → ws ≡ widths style g (rectangles m) → length edges ≡ length ws + 1 → ((k : ℕ) → k < length ws + 1 → get_or edges k 0 ≡ start_of Columns (line_size style.columns (length ws)) ws k) → AreEdges style g m edges
+pub edges-of : (style : Style) (g : Grid (List ℕ)) (m : SpanMap) (ws edges : List ℕ) → ws ≡ sizes Columns style g (rectangles m) → length edges ≡ length ws + 1 → ((k : ℕ) → k < length ws + 1 → get_or edges k 0 ≡ start_of Columns (line_size style.columns (length ws)) ws k) → AreEdges (plan_of style g (rectangles m)) edges
 edges-of style g m ws edges is long each-is =
     let many : length ws ≡ g.columns = ap length is ∙ length-sizes Columns style g (rectangles m) in
     record {

@@ -1,12 +1,14 @@
 -- Lines of tables without merged cells.
-use Rattle.tabled_draw.proofs.Common.{ASCII, Alignment, AreUnmerged, Bool, Fits, Grid, IsOwnerRow, List, None, Option, Rectangle, SpanMap, Style, [], ap, ap₂, are_none, arith, arms, corner, replicate, size_if, cond, cond-true, corner_if, differ, edge_before, rectangles, eqb-true, false, get_or, is_drawn, left_of, length, level, line_between, lt-ltb, marked, meeting, nat_lt, nil_from_length, refl, stretches, sym, true, unmerged_arms, unmerged_corner, unmerged_stretch, ℕ, ◌&&◌, ◌++◌, ◌+◌, ◌<◌, ◌==◌, ◌∙◌, ◌∷◌, ◌≡◌, ◌≤◌}
+use Rattle.tabled_draw.proofs.Common.{ASCII, AreUnmerged, Bool, Fits, Grid, IsOwnerRow, List, None, Option, Rectangle, SpanMap, Style, [], ap, ap₂, are_none, arith, arms, cond, cond-true, corner, corner_if, differ, edge_before, eqb-true, false, get_or, is_drawn, left_of, length, level, line_between, lt-ltb, marked, meeting, nat_lt, nil_from_length, plan_of, rectangles, refl, replicate, size_if, stretch, sym, true, unmerged_arms, unmerged_corner, unmerged_stretch, ℕ, ◌&&◌, ◌++◌, ◌+◌, ◌<◌, ◌==◌, ◌∙◌, ◌∷◌, ◌≡◌, ◌≤◌}
 use Rattle.tabled_draw.proofs.Arms.{marked-corner, same-arms}
 use Rattle.tabled_draw.proofs.Each.{each-same}
 use Rattle.tabled_draw.proofs.LawPicture.{arms-meet}
 use Rattle.tabled_draw.proofs.Owned.{fits-well}
 use Rattle.tabled_draw.specs.Borders.{Arms}
-use Rattle.tabled_draw.specs.Lines.{drawn_line, unmerged_line}
+use Rattle.tabled_draw.specs.Lines.{drawn_line}
 use Rattle.tabled_draw.specs.Owners.{owner}
+use Rattle.tabled_draw.specs.Unmerged.{unmerged_line}
+use Rattle.tabled_draw.specs.declared.sheet.Sheet.{Sheet}
 
 with-true : (b : Bool) → b && true ≡ b
 with-true true = refl
@@ -27,15 +29,15 @@ between-is style rows columns i edges some within = ap (λ x. x ++ (10 ∷ [])) 
 
 -- where no cells are merged, the arms are those of the table alone
 pub unmerged-rows : (g : Grid (List ℕ)) (m : SpanMap) (i rows columns : ℕ) (above below : List (Option Rectangle)) → rows ≡ g.rows → columns ≡ g.columns → Fits m g.rows g.columns → 0 < g.rows → 0 < g.columns → rectangles m ≡ [] → i ≤ g.rows
-    → IsOwnerRow g.rows g.columns m i above → IsOwnerRow g.rows g.columns m (i + 1) below → AreUnmerged rows columns i above below
-unmerged-rows g m i rows columns above below same_rows same_columns fits high wide none within over under = record { each = λ j less. by j (omega (arith, less, same_columns)) }
+    → IsOwnerRow g.rows g.columns (rectangles m) i above → IsOwnerRow g.rows g.columns (rectangles m) (i + 1) below → AreUnmerged rows columns i above below
+unmerged-rows g m i rows columns above below same_rows same_columns fits high wide none within over under = record { each = λ j less. arms-are j (omega (arith, less, same_columns)) }
   where
-    by : (j : ℕ) → j ≤ g.columns → arms (get_or above j None) (get_or above (j + 1) None) (get_or below j None) (get_or below (j + 1) None) ≡ unmerged_arms rows columns i j
-    by j less =
+    arms-are : (j : ℕ) → j ≤ g.columns → arms (get_or above j None) (get_or above (j + 1) None) (get_or below j None) (get_or below (j + 1) None) ≡ unmerged_arms rows columns i j
+    arms-are j less =
         let first : arms (get_or above j None) (get_or above (j + 1) None) (get_or below j None) (get_or below (j + 1) None) ≡ arms (owner g.rows g.columns (rectangles m) i j) (owner g.rows g.columns (rectangles m) i (j + 1)) (owner g.rows g.columns (rectangles m) (i + 1) j) (owner g.rows g.columns (rectangles m) (i + 1) (j + 1)) =
         rw (over.each j (omega (arith, less)), over.each (j + 1) (omega (arith, less)), under.each j (omega (arith, less)), under.each (j + 1) (omega (arith, less))) refl in
         first
-        ∙ arms-meet ASCII [] g (rectangles m) (fits-well m g.rows g.columns fits) (record { row = high; col = wide }) i j within less
+        ∙ arms-meet (plan_of ASCII g (rectangles m)) [] (fits-well m g.rows g.columns fits) (record { row = high; col = wide }) i j within less
         ∙ ap (λ es. meeting g es i j) none
         ∙ same-arms _ _ _ _ _ _ _ _ (with-true (nat_lt 0 i)) (with-true (nat_lt j g.columns) ∙ ap (nat_lt j) (sym same_columns)) (with-true (nat_lt i g.rows) ∙ ap (nat_lt i) (sym same_rows)) (with-true (nat_lt 0 j))
 
@@ -47,11 +49,11 @@ module _ (rows columns i : ℕ) (above below : List (Option Rectangle)) (unmerge
   pub left-unmerged : (j : ℕ) (text : List ℕ) → j < columns → text ≡ left_of j (get_or above (j + 1) None) (get_or below (j + 1) None) text
   left-unmerged j text less = sym (cond-true _ _ _ (apart j less))
 
-  pub unmerged-is : (style : Style) (aligns : List Alignment) (edges : List ℕ) (texts : List (List ℕ)) → unmerged_line style rows columns i edges ≡ drawn_line style aligns columns false edges above below texts
+  pub unmerged-is : (sheet : Sheet) (texts : List (List ℕ)) → unmerged_line sheet.look.style rows columns i sheet.edges.now ≡ drawn_line sheet false above below columns texts
   unfolding drawn_line unmerged_line
-  unmerged-is style aligns edges texts = ap (λ x. x ++ (10 ∷ [])) (ap₂ (λ x y. x ++ y)
-      (each-same (unmerged_stretch style rows columns i edges) (stretches style aligns columns false edges above below texts) columns (λ j less. ap₂ (λ x y. x ++ y) (corner-is j (omega (arith, less))) (sym (cond-true _ _ _ (apart j less)))))
+  unmerged-is sheet texts = ap (λ x. x ++ (10 ∷ [])) (ap₂ (λ x y. x ++ y)
+      (each-same (unmerged_stretch sheet.look.style rows columns i sheet.edges.now) (stretch sheet false above below columns texts) columns (λ j less. ap₂ (λ x y. x ++ y) (corner-is j (omega (arith, less))) (sym (cond-true _ _ _ (apart j less)))))
       (corner-is columns (omega arith)))
     where
-      corner-is : (j : ℕ) → j ≤ columns → unmerged_corner style rows columns i j ≡ edge_before style columns false above below j
-      corner-is j less = sym (marked-corner style (is_drawn style.columns columns j) (unmerged_arms rows columns i j)) ∙ ap (λ (x : Arms). cond (are_none x) [] (replicate (size_if (is_drawn style.columns columns j)) (corner style x))) (sym (unmerged.each j less))
+      corner-is : (j : ℕ) → j ≤ columns → unmerged_corner sheet.look.style rows columns i j ≡ edge_before sheet false above below columns j
+      corner-is j less = sym (marked-corner sheet.look.style (is_drawn sheet.look.style.columns columns j) (unmerged_arms rows columns i j)) ∙ ap (λ (x : Arms). cond (are_none x) [] (replicate (size_if (is_drawn sheet.look.style.columns columns j)) (corner sheet.look.style x))) (sym (unmerged.each j less))

@@ -1,5 +1,5 @@
 -- How wide a text is beside others: what unicode_width reads from its end.
-use Rattle.tabled_draw.proofs.Common.{[], ArePlain, List, Bool, ◌++◌, ◌+◌, ◌<◌, ◌∙◌, ◌∷◌, ◌≡◌, ◌≤◌, ◌⊎◌, AllByRecursion, IsFineMark, add-one, add-zero, ap, arith, cases_lt, cond, false, inl, inr, length, length-replicate, nat_tests, not, refl, replicate, subst, suc, sym, text_width, true, zero, ℕ}
+use Rattle.tabled_draw.proofs.Common.{AllByRecursion, ArePlain, Bool, IsFineMark, List, [], add-one, add-zero, ap, arith, cases_lt, cond, false, inl, inr, length, length-replicate, nat_tests, not, refl, replicate, subst, suc, sym, text_width, true, zero, ℕ, ◌++◌, ◌+◌, ◌<◌, ◌∙◌, ◌∷◌, ◌≡◌, ◌≤◌, ◌⊎◌}
 use Rattle.std.proofs.lemmas.List.Elements.{All-head, All-tail}
 use Rattle.std.specs.List.{list_all}
 use Rattle.unicode_width.proofs.Computing.{unicode_width}

@@ -1,5 +1,5 @@
 -- Borders: which lines are drawn, and the characters of straight borders and of corners.
-use Rattle.std.specs.Prelude.{◌+◌, ◌==◌, ◌&&◌, ◌||◌, if◌then◌else◌, ℕ, Bool, false, true, List, Option, None, Some, nat_lt, not, slice_index_or}
+use Rattle.std.specs.Prelude.{◌+◌, ◌==◌, ◌&&◌, ◌||◌, if◌then◌else◌, ℕ, Bool, false, true, List, [], Option, None, Some, nat_lt, not, replicate, slice_index_or}
 use Rattle.tabled_draw.specs.Owners.{Owner}
 use Rattle.tabled_draw.specs.declared.style.Lines.{Lines}
 use Rattle.tabled_draw.specs.declared.style.Style.{Style}
@@ -83,3 +83,7 @@ corner_if style a = if are_none a then None else Some (corner style a)
 -- the character of a border that runs through a row, or of a corner between two
 abbrev pub mark : Style → Bool → Arms → ℕ
 mark style is_row a = if is_row then style.vertical else corner style a
+
+-- what stands on a line of some size where four places meet, two above two, or two of a row: nothing where no arm meets
+abbrev pub edge : Style → Bool → ℕ → Owner → Owner → Owner → Owner → List ℕ
+edge style is_row size a b c d = if are_none (arms a b c d) then [] else replicate size (mark style is_row (arms a b c d))

@@ -1,7 +1,9 @@
 -- Tables as Markdown: what their lines are.
-use Rattle.std.specs.Prelude.{◌==◌, ◌&&◌, ◌||◌, ◌++◌, if◌then◌else◌, ℕ, Bool, List, [], ◌∷◌, chars, codes, length, replicate, slice_index_or}
+use Rattle.std.specs.Prelude.{◌≡◌, ◌<◌, ◌==◌, ◌&&◌, ◌||◌, ◌++◌, if◌then◌else◌, ℕ, Bool, List, [], ◌∷◌, String, chars, codes, length, map, max, replicate, slice_index_or}
 use Rattle.std.specs.Char.{is_ascii_alphanumeric, is_control, is_whitespace}
 use Rattle.std.specs.Fmt.{decimal}
+use Rattle.std.specs.Global.{Global, Vec}
+use Rattle.std.specs.String.{string_bytes}
 use Rattle.tabled_draw.specs.Alignments.{aligned, alignment_in}
 use Rattle.tabled_draw.specs.Each.{each, largest}
 use Rattle.tabled_draw.specs.Picture.{bytes_of_lines}
@@ -10,9 +12,10 @@ use Rattle.tabled_draw.specs.Texts.{text_width}
 use Rattle.tabled_draw.specs.declared.alignment.Alignment.{Alignment}
 use Rattle.tabled_draw.specs.declared.alignment.Alignment.TheVariants.{Left, Center, Right}
 use Rattle.tabled_grid.specs.Anchors.{is_hidden_in}
+use Rattle.tabled_grid.specs.Covers.{Cover, cover_of}
 use Rattle.tabled_grid.specs.Entity.{place}
 use Rattle.tabled_grid.specs.Fitting.{fitting}
-use Rattle.tabled_grid.specs.Grid.{Grid}
+use Rattle.tabled_grid.specs.Grid.{Grid, map_items}
 use Rattle.tabled_grid.specs.Spans.{SpanMap, rectangles}
 use Rattle.tabled_grid.specs.declared.config.rectangle.Rectangle.{Rectangle}
 use Rattle.tabled_grid.specs.declared.config.position.Position.{Position}
@@ -70,6 +73,10 @@ row_apart g es i = each g.columns (λ j. cell_apart g es (place i j) ∷ [])
 abbrev pub rows_apart : Grid (List ℕ) → List Rectangle → List (List (List ℕ))
 rows_apart g es = each g.rows (λ i. row_apart g es i ∷ [])
 
+-- what stands for the cells of all rows, where those of the merged cells that fit hide cells
+abbrev pub texts_apart : Grid (List ℕ) → SpanMap → List (List (List ℕ))
+texts_apart g m = rows_apart g (fitting g.rows g.columns (rectangles m))
+
 -- ---- lines
 
 -- the columns that the widest of some rows' cells takes of a column, and at least three
@@ -115,9 +122,40 @@ lines_of aligns widths rows = if length widths == 0 then [] else each (length ro
 -- the lines of a table as Markdown, where the merged cells that fit it hide cells
 abbrev pub markdown_lines : List Alignment → Grid (List ℕ) → SpanMap → List (List ℕ)
 markdown_lines aligns g m =
-    let rows = rows_apart g (fitting g.rows g.columns (rectangles m)) in
-    lines_of aligns (markdown_widths g.columns rows) rows
+    lines_of aligns (markdown_widths g.columns (texts_apart g m)) (texts_apart g m)
 
 -- the bytes of a table as Markdown
 unfoldable pub markdown : List Alignment → Grid (List ℕ) → SpanMap → List ℕ
 markdown aligns g m = bytes_of_lines (markdown_lines aligns g m)
+
+-- ---- texts that are made one by one, where it is counted how often each place is hidden
+
+-- the characters of a text
+abbrev pub characters : String Global → List ℕ
+characters text = chars (string_bytes text)
+
+-- the characters of the texts of rows
+abbrev pub rows_of_characters : List (Vec (String Global)) → List (List (List ℕ))
+rows_of_characters rows = map (map characters) (map_items rows)
+
+-- counts of how often places are hidden are those of all places of a table
+pub record IsOver {A : Type 0} (g : Grid A) (cover : Cover) : Type 0 where
+  pub first : cover.first ≡ place 0 0
+  pub rows : cover.rows ≡ g.rows
+  pub columns : cover.columns ≡ g.columns
+
+-- a text is that of a place, where the table's merged cells are those that are counted
+abbrev pub IsCellApart : Grid (List ℕ) → Cover → Position → String Global → Type 0
+IsCellApart g cover p text = (m : SpanMap) → cover ≡ cover_of m g.rows g.columns → characters text ≡ cell_apart g (rectangles m) p
+
+-- texts are those of row i, likewise
+abbrev pub IsRowApart : Grid (List ℕ) → Cover → ℕ → List (String Global) → Type 0
+IsRowApart g cover i row = (m : SpanMap) → cover ≡ cover_of m g.rows g.columns → map characters row ≡ row_apart g (rectangles m) i
+
+-- texts are those of all rows, likewise
+abbrev pub AreRowsApart : Grid (List ℕ) → Cover → List (Vec (String Global)) → Type 0
+AreRowsApart g cover rows = (m : SpanMap) → cover ≡ cover_of m g.rows g.columns → rows_of_characters rows ≡ rows_apart g (rectangles m)
+
+-- each width is raised to that of the text in its column
+abbrev pub AreRaised : List (List ℕ) → List ℕ → List ℕ → Type 0
+AreRaised row old new = (j : ℕ) → j < length row → slice_index_or new j 0 ≡ max (slice_index_or old j 0) (text_width (slice_index_or row j []))

@@ -2,14 +2,13 @@
 use Rattle.std.specs.Prelude.{◌≡◌, ◌+◌, ◌-◌, ◌<◌, ◌≤◌, ◌⊎◌, if◌then◌else◌, ℕ, Bool, List, [], length, max, slice_index_or, slice_set}
 use Rattle.std.specs.List.{AllByRecursion, fold, sum}
 use Rattle.tabled_draw.specs.Marks.{IsFine, IsNoControl}
-use Rattle.tabled_draw.specs.Picture.{drawn_with, left, picture, picture_bytes}
-use Rattle.tabled_draw.specs.Sizes.{asks, heights, own_sizes, room, sizes, text_of_cell}
+use Rattle.tabled_draw.specs.Picture.{Plan, bytes_of_lines, drawn_with, heights, left, line_height, line_width, picture, picture_lines, plan_of}
+use Rattle.tabled_draw.specs.Sizes.{asks, own_sizes, room, sizes, text_of_cell}
 use Rattle.tabled_draw.specs.Each.{is_in_range, total}
 use Rattle.tabled_draw.specs.Borders.{border}
 use Rattle.tabled_draw.specs.Texts.{text_width}
 use Rattle.tabled_draw.specs.declared.alignment.Alignment.{Alignment}
 use Rattle.tabled_draw.specs.declared.style.Style.{Style}
-use Rattle.tabled_grid.specs.declared.records.axis.Axis.TheVariants.{Rows, Columns}
 use Rattle.tabled_grid.specs.Axis.{line_of, lines_in}
 use Rattle.tabled_grid.specs.Entity.{place}
 use Rattle.tabled_grid.specs.Fitting.{Fits, fitting}
@@ -18,42 +17,42 @@ use Rattle.tabled_grid.specs.Spans.{SpanMap, rectangles}
 use Rattle.tabled_grid.specs.declared.config.rectangle.Rectangle.{Rectangle}
 use Rattle.tabled_grid.specs.declared.records.axis.Axis.{Axis}
 
--- what is said of looks, tables and merged cells holds where these fit their table, and so always of those that are drawn
-pub record HoldsOfPictures (Says : Style → List Alignment → Grid (List ℕ) → List Rectangle → Type 0) : Type 0 where
-  pub where_all_fit : (style : Style) (aligns : List Alignment) (g : Grid (List ℕ)) (m : SpanMap) → Fits m g.rows g.columns → Says style aligns g (rectangles m)
-  pub of_drawn : (style : Style) (aligns : List Alignment) (g : Grid (List ℕ)) (m : SpanMap) → Says style aligns g (fitting g.rows g.columns (rectangles m))
+-- what is said of plans and alignments holds where merged cells fit their table, and so always of those that are drawn
+pub record HoldsOfPictures (Says : Plan → List Alignment → Type 0) : Type 0 where
+  pub where_all_fit : (style : Style) (aligns : List Alignment) (g : Grid (List ℕ)) (m : SpanMap) → Fits m g.rows g.columns → Says (plan_of style g (rectangles m)) aligns
+  pub of_drawn : (style : Style) (aligns : List Alignment) (g : Grid (List ℕ)) (m : SpanMap) → Says (plan_of style g (fitting g.rows g.columns (rectangles m))) aligns
 
 -- it holds of any, whether all merged cells fit or not
-abbrev pub HoldsOfAll : (Style → List Alignment → Grid (List ℕ) → List Rectangle → Type 0) → Type 0
-HoldsOfAll Says = (style : Style) (aligns : List Alignment) (g : Grid (List ℕ)) (es : List Rectangle) → Says style aligns g es
+abbrev pub HoldsOfAll : (Plan → List Alignment → Type 0) → Type 0
+HoldsOfAll Says = (plan : Plan) (aligns : List Alignment) → Says plan aligns
 
 -- no character of a line is a control character
 abbrev pub AreNoControls : List ℕ → Type 0
 AreNoControls line = AllByRecursion IsNoControl line
 
 -- so is it in all lines, in a style whose characters are fine
-abbrev pub HasNoControls : Style → List Alignment → Grid (List ℕ) → List Rectangle → Type 0
-HasNoControls style aligns g es = IsFine style → AllByRecursion AreNoControls (picture style aligns g es)
+abbrev pub HasNoControls : Plan → List Alignment → Type 0
+HasNoControls plan aligns = IsFine plan.style → AllByRecursion AreNoControls (picture_lines plan aligns)
 
 -- each line takes as many columns as there are before the table's right edge, and one for that edge if it is drawn
-abbrev pub AreEquallyWide : Style → List Alignment → Grid (List ℕ) → List Rectangle → Type 0
-AreEquallyWide style aligns g es = IsFine style → AllByRecursion (λ line. text_width line ≡ left style g es g.columns + border Columns style g g.columns) (picture style aligns g es)
+abbrev pub AreEquallyWide : Plan → List Alignment → Type 0
+AreEquallyWide plan aligns = IsFine plan.style → AllByRecursion (λ line. text_width line ≡ left plan plan.grid.columns + line_width plan plan.grid.columns) (picture_lines plan aligns)
 
 -- the number of lines that are drawn around the rows of a table
-abbrev pub drawn_lines : Style → Grid (List ℕ) → ℕ
-drawn_lines style g = total (g.rows + 1) (border Rows style g)
+abbrev pub drawn_lines : Plan → ℕ
+drawn_lines plan = total (plan.grid.rows + 1) (line_height plan)
 
 -- the picture of a table with a cell has a line for each line of a row, and one for each line around the rows that is drawn
-abbrev pub HasAsManyLines : Style → List Alignment → Grid (List ℕ) → List Rectangle → Type 0
-HasAsManyLines style aligns g es = IsInside g (place 0 0) → length (picture style aligns g es) ≡ sum (heights style g es) + drawn_lines style g
+abbrev pub HasAsManyLines : Plan → List Alignment → Type 0
+HasAsManyLines plan aligns = IsInside plan.grid (place 0 0) → length (picture_lines plan aligns) ≡ sum (heights plan) + drawn_lines plan
 
 -- each row of a table has a line of its own
-abbrev pub HasLineOfEachRow : Style → List Alignment → Grid (List ℕ) → List Rectangle → Type 0
-HasLineOfEachRow style aligns g es = (i : ℕ) → i < g.rows → 1 ≤ slice_index_or (heights style g es) i 0
+abbrev pub HasLineOfEachRow : Plan → List Alignment → Type 0
+HasLineOfEachRow plan aligns = (i : ℕ) → i < plan.grid.rows → 1 ≤ slice_index_or (heights plan) i 0
 
 -- the picture of a table without cells has no line
-abbrev pub HasNoLinesWithoutCells : Style → List Alignment → Grid (List ℕ) → List Rectangle → Type 0
-HasNoLinesWithoutCells style aligns g es = (g.rows ≡ 0) ⊎ (g.columns ≡ 0) → picture style aligns g es ≡ []
+abbrev pub HasNoLinesWithoutCells : Plan → List Alignment → Type 0
+HasNoLinesWithoutCells plan aligns = (plan.grid.rows ≡ 0) ⊎ (plan.grid.columns ≡ 0) → picture_lines plan aligns ≡ []
 
 -- in each look, two tables with merged cells have one picture
 abbrev pub AreDrawnAlike : Grid (List ℕ) → SpanMap → Grid (List ℕ) → SpanMap → Type 0
@@ -61,7 +60,7 @@ AreDrawnAlike g m h k = (style : Style) (aligns : List Alignment) → drawn_with
 
 -- in each look, the picture of a table is that with all its merged cells
 abbrev pub IsDrawnWhole : Grid (List ℕ) → SpanMap → Type 0
-IsDrawnWhole g m = (style : Style) (aligns : List Alignment) → drawn_with style aligns g m ≡ picture_bytes style aligns g (rectangles m)
+IsDrawnWhole g m = (style : Style) (aligns : List Alignment) → drawn_with style aligns g m ≡ bytes_of_lines (picture style aligns g (rectangles m))
 
 -- a merged cell takes a row, or a column
 abbrev pub takes : Axis → ℕ → Rectangle → Bool
@@ -81,5 +80,5 @@ most_asked axis style g es k =
     fold (λ most e. if takes axis k e then max most (lacking axis style g es k e) else most) own es
 
 -- no row is higher, and no column wider
-abbrev pub AreNoLargerThanAsked : Style → List Alignment → Grid (List ℕ) → List Rectangle → Type 0
-AreNoLargerThanAsked style aligns g es = (axis : Axis) (k : ℕ) → slice_index_or (sizes axis style g es) k 0 ≤ most_asked axis style g es k
+abbrev pub AreNoLargerThanAsked : Plan → List Alignment → Type 0
+AreNoLargerThanAsked plan aligns = (axis : Axis) (k : ℕ) → slice_index_or (sizes axis plan.style plan.grid plan.merged) k 0 ≤ most_asked axis plan.style plan.grid plan.merged k

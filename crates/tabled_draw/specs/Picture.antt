@@ -1,12 +1,16 @@
 -- The picture of a table: its lines, each a list of characters.
-use Rattle.std.specs.Prelude.{◌+◌, ◌-◌, ◌==◌, ◌||◌, ◌++◌, if◌then◌else◌, ℕ, List, [], ◌∷◌, None, Some, encode_utf8_all, replicate, slice_index_or}
+use Rattle.std.specs.Prelude.{◌≡◌, ◌⊎◌, ◌+◌, ◌-◌, ◌==◌, ◌||◌, ◌++◌, if◌then◌else◌, ℕ, List, [], ◌∷◌, None, Option, Some, encode_utf8_all, replicate, slice_index_or}
+use Rattle.std.specs.IoError.{error_kind}
 use Rattle.std.specs.List.{flat_map}
+use Rattle.std.specs.declared.io.Error.{Error}
+use Rattle.std.specs.declared.io.ErrorKind.TheVariants.{OutOfMemory}
 use Rattle.tabled_draw.specs.Alignments.{alignment_in, cell}
-use Rattle.tabled_draw.specs.Borders.{are_none, arms, border, differ, mark}
+use Rattle.tabled_draw.specs.Borders.{border, differ, edge}
 use Rattle.tabled_draw.specs.Each.{each}
 use Rattle.tabled_draw.specs.Owners.{Owner, owner}
-use Rattle.tabled_draw.specs.Sizes.{heights, pad, room, start_of, text_of_cell, widths}
+use Rattle.tabled_draw.specs.Sizes.{pad, room, sizes, start_of, text_of_cell}
 use Rattle.tabled_draw.specs.declared.alignment.Alignment.{Alignment}
+use Rattle.tabled_draw.specs.declared.look.Look.{Look}
 use Rattle.tabled_draw.specs.declared.style.Style.{Style}
 use Rattle.tabled_draw.specs.declared.style.TheConstants.Style.{ASCII}
 use Rattle.tabled_grid.specs.Fitting.{fitting}
@@ -14,86 +18,119 @@ use Rattle.tabled_grid.specs.Grid.{Grid}
 use Rattle.tabled_grid.specs.Spans.{SpanMap, rectangles}
 use Rattle.tabled_grid.specs.declared.config.rectangle.Rectangle.{Rectangle}
 use Rattle.tabled_grid.specs.declared.records.axis.Axis.TheVariants.{Rows, Columns}
+use Rattle.tabled_held.specs.Sent.{IsCutShort}
 
--- the number of lines before the line above a row
-abbrev pub top : Style → Grid (List ℕ) → List Rectangle → ℕ → ℕ
-top style g es i = start_of Rows (border Rows style g) (heights style g es) i
+-- what a picture shows, and where: a table of texts and its merged cells, in a style
+pub record Plan : Type 0 where
+  pub style : Style
+  pub grid : Grid (List ℕ)
+  pub merged : List Rectangle
 
--- the number of characters before a column's left edge, where each is one column wide
-abbrev pub left : Style → Grid (List ℕ) → List Rectangle → ℕ → ℕ
-left style g es j = start_of Columns (border Columns style g) (widths style g es) j
+-- the plan of a table in a style
+abbrev pub plan_of : Style → Grid (List ℕ) → List Rectangle → Plan
+plan_of style g es = record { style = style; grid = g; merged = es }
 
--- what a cell shows in the n-th line of the picture: its line of text, aligned in its room
-abbrev pub shows : Style → List Alignment → Grid (List ℕ) → List Rectangle → ℕ → Rectangle → List ℕ
-shows style aligns g es n o =
-    cell (alignment_in aligns o.first.col) (room Columns (border Columns style g) (widths style g es) o.first.col o.size.width) (text_of_cell g o.first) (n - top style g es o.first.row - border Rows style g o.first.row)
+-- ---- where rows and columns lie, and what stands between them
 
--- what it shows in a column of that line: its text where it begins, elsewhere nothing
-abbrev pub shows_in : Style → List Alignment → Grid (List ℕ) → List Rectangle → ℕ → ℕ → Owner → List ℕ
-shows_in style aligns g es n j None = []
-shows_in style aligns g es n j (Some o) = if o.first.col == j then shows style aligns g es n o else []
+module _ (plan : Plan) where
+  -- what owns the place in row i and column j, which count from 1
+  abbrev pub owner_at : ℕ → ℕ → Owner
+  owner_at i j = owner plan.grid.rows plan.grid.columns plan.merged i j
 
--- at the left edge of a column, in row u or between the rows u and d, which count from 1: nothing where no arm meets
-abbrev pub edge_between : Style → Grid (List ℕ) → List Rectangle → ℕ → ℕ → ℕ → List ℕ
-edge_between style g es u d j =
-    let at = owner g.rows g.columns es in
-    let meeting = arms (at u j) (at u (j + 1)) (at d j) (at d (j + 1)) in
-    if are_none meeting then [] else replicate (border Columns style g j) (mark style (u == d) meeting)
+  -- how high the line above a row is, or that below the last one: one, if it is drawn
+  abbrev pub line_height : ℕ → ℕ
+  line_height i = border Rows plan.style plan.grid i
 
--- in a column: a border between two owners, else what the one owner shows
-abbrev pub column_between : Style → List Alignment → Grid (List ℕ) → List Rectangle → ℕ → ℕ → ℕ → ℕ → List ℕ
-column_between style aligns g es n u d j =
-    let at = owner g.rows g.columns es in
-    if differ (at u (j + 1)) (at d (j + 1))
-    then replicate (slice_index_or (widths style g es) j 0 + pad Columns) style.horizontal
-    else shows_in style aligns g es n j (at u (j + 1))
+  -- how wide the line at the left edge of a column is, or at the right edge of the last one
+  abbrev pub line_width : ℕ → ℕ
+  line_width j = border Columns plan.style plan.grid j
 
--- the n-th line of the picture, in row u or between the rows u and d
-abbrev pub picture_line : Style → List Alignment → Grid (List ℕ) → List Rectangle → ℕ → ℕ → ℕ → List ℕ
-picture_line style aligns g es n u d =
-    each g.columns (λ j. edge_between style g es u d j ++ column_between style aligns g es n u d j)
-    ++ edge_between style g es u d g.columns
+  -- the heights of rows
+  abbrev pub heights : List ℕ
+  heights = sizes Rows plan.style plan.grid plan.merged
 
--- the line above a row, or below the last one, if it is drawn
-abbrev pub border_line : Style → List Alignment → Grid (List ℕ) → List Rectangle → ℕ → List (List ℕ)
-border_line style aligns g es i = replicate (border Rows style g i) (picture_line style aligns g es (top style g es i) i (i + 1))
+  -- the widths of columns
+  abbrev pub widths : List ℕ
+  widths = sizes Columns plan.style plan.grid plan.merged
 
--- the line above a row, and the lines in it
-abbrev pub lines_of_row : Style → List Alignment → Grid (List ℕ) → List Rectangle → ℕ → List (List ℕ)
-lines_of_row style aligns g es i =
-    border_line style aligns g es i
-    ++ each (slice_index_or (heights style g es) i 0) (λ y. picture_line style aligns g es (top style g es i + border Rows style g i + y) (i + 1) (i + 1) ∷ [])
+  -- the number of lines before the line above a row
+  abbrev pub top : ℕ → ℕ
+  top i = start_of Rows line_height heights i
 
--- the lines of the picture, of which a table without cells has none
+  -- the number of characters before a column's left edge, where each is one column wide
+  abbrev pub left : ℕ → ℕ
+  left j = start_of Columns line_width widths j
+
+  -- at the left edge of a column, in row u or between the rows u and d, which count from 1
+  abbrev pub edge_at : ℕ → ℕ → ℕ → List ℕ
+  edge_at u d j = edge plan.style (u == d) (line_width j) (owner_at u j) (owner_at u (j + 1)) (owner_at d j) (owner_at d (j + 1))
+
+-- ---- lines
+
+module _ (plan : Plan) (aligns : List Alignment) where
+  -- what a cell shows in the n-th line of the picture: its line of text, aligned in its room
+  abbrev pub shows : ℕ → Rectangle → List ℕ
+  shows n o =
+      cell (alignment_in aligns o.first.col) (room Columns (line_width plan) (widths plan) o.first.col o.size.width) (text_of_cell plan.grid o.first)
+      (n - top plan o.first.row - line_height plan o.first.row)
+
+  -- what it shows in a column of that line: its text where it begins, elsewhere nothing
+  abbrev pub shows_in : ℕ → ℕ → Owner → List ℕ
+  shows_in n j None = []
+  shows_in n j (Some o) = if o.first.col == j then shows n o else []
+
+  -- in a column: a border between two owners, else what the one owner shows
+  abbrev pub column_at : ℕ → ℕ → ℕ → ℕ → List ℕ
+  column_at n u d j =
+      if differ (owner_at plan u (j + 1)) (owner_at plan d (j + 1))
+      then replicate (slice_index_or (widths plan) j 0 + pad Columns) plan.style.horizontal
+      else shows_in n j (owner_at plan u (j + 1))
+
+  -- the n-th line of the picture, in row u or between the rows u and d
+  abbrev pub line_at : ℕ → ℕ → ℕ → List ℕ
+  line_at n u d = each plan.grid.columns (λ j. edge_at plan u d j ++ column_at n u d j) ++ edge_at plan u d plan.grid.columns
+
+  -- the line above a row, or below the last one, if it is drawn
+  abbrev pub border_line : ℕ → List (List ℕ)
+  border_line i = replicate (line_height plan i) (line_at (top plan i) i (i + 1))
+
+  -- the line above a row, and the lines in it
+  abbrev pub lines_of_row : ℕ → List (List ℕ)
+  lines_of_row i = border_line i ++ each (slice_index_or (heights plan) i 0) (λ y. line_at (top plan i + line_height plan i + y) (i + 1) (i + 1) ∷ [])
+
+  -- the lines of the picture, of which a table without cells has none
+  abbrev pub picture_lines : List (List ℕ)
+  picture_lines =
+      if (plan.grid.rows == 0) || (plan.grid.columns == 0) then []
+      else each plan.grid.rows lines_of_row ++ border_line plan.grid.rows
+
+-- ---- pictures
+
+-- the lines of the picture of a table with merged cells
 abbrev pub picture : Style → List Alignment → Grid (List ℕ) → List Rectangle → List (List ℕ)
-picture style aligns g es =
-    if (g.rows == 0) || (g.columns == 0) then []
-    else each g.rows (lines_of_row style aligns g es) ++ border_line style aligns g es g.rows
+picture style aligns g es = picture_lines (plan_of style g es) aligns
 
 -- lines, with a newline after each
 abbrev pub with_newlines : List (List ℕ) → List ℕ
 with_newlines lines = flat_map (λ line. line ++ (10 ∷ [])) lines
 
--- the characters of the lines of a row, each line with a newline
-abbrev pub row_text : Style → List Alignment → Grid (List ℕ) → SpanMap → ℕ → List ℕ
-row_text style aligns g m i = with_newlines (lines_of_row style aligns g (rectangles m) i)
-
--- the characters of a picture, each line with a newline
-abbrev pub picture_text : Style → List Alignment → Grid (List ℕ) → SpanMap → List ℕ
-picture_text style aligns g m = with_newlines (picture style aligns g (rectangles m))
-
 -- the bytes of lines, with a newline after each
 abbrev pub bytes_of_lines : List (List ℕ) → List ℕ
 bytes_of_lines lines = encode_utf8_all (with_newlines lines)
 
--- the bytes of the picture of a table with merged cells
-abbrev pub picture_bytes : Style → List Alignment → Grid (List ℕ) → List Rectangle → List ℕ
-picture_bytes style aligns g es = bytes_of_lines (picture style aligns g es)
-
 -- the bytes of the picture of a table with those of its merged cells that fit it
 unfoldable pub drawn_with : Style → List Alignment → Grid (List ℕ) → SpanMap → List ℕ
-drawn_with style aligns g m = picture_bytes style aligns g (fitting g.rows g.columns (rectangles m))
+drawn_with style aligns g m = bytes_of_lines (picture style aligns g (fitting g.rows g.columns (rectangles m)))
 
 -- the bytes of that picture in the look that the original crate has by default
 abbrev pub drawn : Grid (List ℕ) → SpanMap → List ℕ
 drawn g m = drawn_with ASCII [] g m
+
+-- the bytes of that picture in a look
+abbrev pub drawn_in : Look → Grid (List ℕ) → SpanMap → List ℕ
+drawn_in look g m = drawn_with look.style look.alignments.now g m
+
+-- what a drawing that fails leaves: memory ran out and nothing was written, or the writer failed and got the first of these
+-- bytes, and not all
+abbrev pub LeavesSome : Error → Option (List ℕ) → Option (List ℕ) → List ℕ → Type 0
+LeavesSome error old new bytes = ((error_kind error ≡ OutOfMemory) × (new ≡ old)) ⊎ IsCutShort old new bytes

@@ -1,9 +1,9 @@
 -- The widths of columns and the heights of rows, said once for both.
-use Rattle.std.specs.Prelude.{◌≡◌, ◌+◌, ◌-◌, ◌/◌, ◌%◌, ◌<◌, ◌==◌, ◌&&◌, if◌then◌else◌, ℕ, List, [], ◌∷◌, length, slice_index_or}
+use Rattle.std.specs.Prelude.{◌≡◌, ◌+◌, ◌-◌, ◌/◌, ◌%◌, ◌<◌, ◌==◌, ◌&&◌, if◌then◌else◌, ℕ, List, [], ◌∷◌, None, Some, length, max, slice_index_or, slice_set}
 use Rattle.std.specs.List.{AllByRecursion, fold}
 use Rattle.std.specs.Option.{unwrap_or}
 use Rattle.tabled_draw.specs.Each.{by_number, each, is_in_range, largest, total}
-use Rattle.tabled_draw.specs.Owners.{owner_in}
+use Rattle.tabled_draw.specs.Owners.{Owner, is_before, owner_in}
 use Rattle.tabled_draw.specs.Borders.{border}
 use Rattle.tabled_draw.specs.declared.style.Style.{Style}
 use Rattle.tabled_draw.specs.Texts.{lines_shown, widest}
@@ -91,10 +91,14 @@ grown axis style g es sizes = fold (grown_for axis style g) sizes (in_order axis
 unfoldable pub sizes : Axis → Style → Grid (List ℕ) → List Rectangle → List ℕ
 sizes axis style g es = grown axis style g es (own_sizes axis g es)
 
--- the widths of columns
-abbrev pub widths : Style → Grid (List ℕ) → List Rectangle → List ℕ
-widths style g es = sizes Columns style g es
+-- ---- sizes, raised place by place
 
--- the heights of rows
-abbrev pub heights : Style → Grid (List ℕ) → List Rectangle → List ℕ
-heights style g es = sizes Rows style g es
+-- the most that is asked by the texts before row i's column j, and of each row or column whatever stands there
+pub record Measured (axis : Axis) (g : Grid (List ℕ)) (es : List Rectangle) (i j : ℕ) (sizes : List ℕ) : Type 0 where
+  pub long : length sizes ≡ count_along axis g
+  pub each : (k : ℕ) → k < count_along axis g → slice_index_or sizes k 0 ≡ largest (least axis) (count_along (across axis) g) (λ x. if is_before i j (place_in axis k x) then own axis g es (place_in axis k x) else 0)
+
+-- the sizes, of which that of a place's line is at least what the text there asks
+abbrev pub raised : Axis → Grid (List ℕ) → List ℕ → Owner → Position → List ℕ
+raised axis g sizes None p = sizes
+raised axis g sizes (Some o) p = slice_set sizes (line_of axis p) (max (slice_index_or sizes (line_of axis p) 0) (own_of axis g o p))

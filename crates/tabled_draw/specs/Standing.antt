@@ -2,17 +2,16 @@
 use Rattle.std.specs.Prelude.{◌≡◌, ◌+◌, ◌-◌, ◌<◌, ◌≤◌, ◌&&◌, ◌++◌, ℕ, Bool, false, List, [], ◌∷◌, length, nat_lt, not, replicate, slice_index_or}
 use Rattle.std.specs.List.{AllByRecursion, list_any}
 use Rattle.tabled_draw.specs.Alignments.{alignment_in, cell, indent}
-use Rattle.tabled_draw.specs.Borders.{Arms, are_one, border, corner}
+use Rattle.tabled_draw.specs.Borders.{Arms, are_one, corner}
 use Rattle.tabled_draw.specs.Each.{is_in_range}
 use Rattle.tabled_draw.specs.Marks.{IsFine, IsFineMark}
 use Rattle.tabled_draw.specs.Owners.{owner_in}
-use Rattle.tabled_draw.specs.Picture.{left, picture, top}
+use Rattle.tabled_draw.specs.Picture.{Plan, left, line_height, line_width, picture, picture_lines, plan_of, top}
 use Rattle.tabled_draw.specs.Sizes.{pad, text_of_cell}
 use Rattle.tabled_draw.specs.Texts.{line_shown, lines_shown, text_width}
 use Rattle.tabled_draw.specs.declared.alignment.Alignment.{Alignment}
-use Rattle.tabled_draw.specs.declared.style.Style.{Style}
 use Rattle.tabled_draw.specs.declared.style.TheConstants.Style.{ASCII}
-use Rattle.tabled_grid.specs.declared.records.axis.Axis.TheVariants.{Rows, Columns}
+use Rattle.tabled_grid.specs.declared.records.axis.Axis.TheVariants.{Columns}
 use Rattle.tabled_grid.specs.Anchors.{is_hidden_in}
 use Rattle.tabled_grid.specs.Entity.{place}
 use Rattle.tabled_grid.specs.Grid.{Grid, IsInside}
@@ -39,32 +38,32 @@ pub record IsSeen (g : Grid (List ℕ)) (es : List Rectangle) (p : Position) : T
   pub seen : is_hidden_in es p ≡ false
 
 -- the number of lines between a cell's upper and lower border
-abbrev pub inner_height : Style → Grid (List ℕ) → List Rectangle → Position → ℕ
-inner_height style g es p = top style g es (p.row + (owner_in es p).size.height) - top style g es p.row - border Rows style g p.row
+abbrev pub inner_height : Plan → Position → ℕ
+inner_height plan p = top plan (p.row + (owner_in plan.merged p).size.height) - top plan p.row - line_height plan p.row
 
 -- the number of columns between a cell's left and right border
-abbrev pub inner_width : Style → Grid (List ℕ) → List Rectangle → Position → ℕ
-inner_width style g es p = left style g es (p.col + (owner_in es p).size.width) - left style g es p.col - border Columns style g p.col
+abbrev pub inner_width : Plan → Position → ℕ
+inner_width plan p = left plan (p.col + (owner_in plan.merged p).size.width) - left plan p.col - line_width plan p.col
 
 -- the line below the line above a cell, or that line itself where it is not drawn
-abbrev pub inner_top : Style → Grid (List ℕ) → List Rectangle → Position → ℕ
-inner_top style g es p = top style g es p.row + border Rows style g p.row
+abbrev pub inner_top : Plan → Position → ℕ
+inner_top plan p = top plan p.row + line_height plan p.row
 
 -- the number of columns before those that are inside a cell's borders
-abbrev pub inner_left : Style → Grid (List ℕ) → List Rectangle → Position → ℕ
-inner_left style g es p = left style g es p.col + border Columns style g p.col
+abbrev pub inner_left : Plan → Position → ℕ
+inner_left plan p = left plan p.col + line_width plan p.col
 
 -- the k-th line of a cell's text, without characters where the text has fewer lines
 abbrev pub text_line : Grid (List ℕ) → Position → ℕ → List ℕ
 text_line g p k = line_shown (text_of_cell g p) k
 
 -- how many columns stand between a blank after a cell's left border and a line of its text
-abbrev pub indent_of : Style → List Alignment → Grid (List ℕ) → List Rectangle → Position → ℕ → ℕ
-indent_of style aligns g es p k = indent (alignment_in aligns p.col) (inner_width style g es p - pad Columns - text_width (text_line g p k))
+abbrev pub indent_of : Plan → List Alignment → Position → ℕ → ℕ
+indent_of plan aligns p k = indent (alignment_in aligns p.col) (inner_width plan p - pad Columns - text_width (text_line plan.grid p k))
 
 -- what stands between a cell's borders in one of its lines: a line of its text, with blanks before and behind it
-abbrev pub inner_line : Style → List Alignment → Grid (List ℕ) → List Rectangle → Position → ℕ → List ℕ
-inner_line style aligns g es p k = cell (alignment_in aligns p.col) (inner_width style g es p - pad Columns) (text_of_cell g p) k
+abbrev pub inner_line : Plan → List Alignment → Position → ℕ → List ℕ
+inner_line plan aligns p k = cell (alignment_in aligns p.col) (inner_width plan p - pad Columns) (text_of_cell plan.grid p) k
 
 -- characters stand in the n-th line of a picture, after some columns, with some characters of borders right before and
 -- right behind them
@@ -80,17 +79,17 @@ pub record StandsFramed (lines : List (List ℕ)) (n columns before behind : ℕ
 -- Each line of the text of each cell that is seen stands whole, where its alignment puts it; between its borders stands
 -- nothing but its text and blanks, also no character without width; and there is room for all lines, with a blank at
 -- both sides.
-pub record ShowsTexts (style : Style) (aligns : List Alignment) (g : Grid (List ℕ)) (es : List Rectangle) : Type 0 where
-  pub whole : (p : Position) → IsSeen g es p → (k : ℕ) → k < length (lines_shown (text_of_cell g p))
-      → StandsAt (picture style aligns g es) (inner_top style g es p + k) (inner_left style g es p + 1 + indent_of style aligns g es p k) (text_line g p k)
-  pub alone : (p : Position) → IsSeen g es p → (k : ℕ) → k < inner_height style g es p
-      → StandsFramed (picture style aligns g es) (inner_top style g es p + k) (left style g es p.col) (border Columns style g p.col) (border Columns style g (p.col + (owner_in es p).size.width)) (inner_line style aligns g es p k)
-  pub high : (p : Position) → IsSeen g es p → length (lines_shown (text_of_cell g p)) ≤ inner_height style g es p
-  pub wide : (p : Position) → IsSeen g es p → (k : ℕ) → text_width (text_line g p k) + pad Columns ≤ inner_width style g es p
+pub record ShowsTexts (plan : Plan) (aligns : List Alignment) : Type 0 where
+  pub whole : (p : Position) → IsSeen plan.grid plan.merged p → (k : ℕ) → k < length (lines_shown (text_of_cell plan.grid p))
+      → StandsAt (picture_lines plan aligns) (inner_top plan p + k) (inner_left plan p + 1 + indent_of plan aligns p k) (text_line plan.grid p k)
+  pub alone : (p : Position) → IsSeen plan.grid plan.merged p → (k : ℕ) → k < inner_height plan p
+      → StandsFramed (picture_lines plan aligns) (inner_top plan p + k) (left plan p.col) (line_width plan p.col) (line_width plan (p.col + (owner_in plan.merged p).size.width)) (inner_line plan aligns p k)
+  pub high : (p : Position) → IsSeen plan.grid plan.merged p → length (lines_shown (text_of_cell plan.grid p)) ≤ inner_height plan p
+  pub wide : (p : Position) → IsSeen plan.grid plan.merged p → (k : ℕ) → text_width (text_line plan.grid p k) + pad Columns ≤ inner_width plan p
 
 -- so are texts shown in a style whose characters are one column wide
-abbrev pub ShowsAllTexts : Style → List Alignment → Grid (List ℕ) → List Rectangle → Type 0
-ShowsAllTexts style aligns g es = IsFine style → ShowsTexts style aligns g es
+abbrev pub ShowsAllTexts : Plan → List Alignment → Type 0
+ShowsAllTexts plan aligns = IsFine plan.style → ShowsTexts plan aligns
 
 -- two tables of a shape have one text wherever no merged cell hides it
 pub record AreSeenAlike (g h : Grid (List ℕ)) (es : List Rectangle) : Type 0 where
@@ -129,13 +128,13 @@ meeting g es i j = record {
 -- line of a row, and its level one at each upper edge of a row, as wide as the column; and at each corner, unless one
 -- lies all round it, the character whose arms are the borders that meet there. So is it where the lines are drawn.
 -- The edge after the last column, and the one below the last row, are such edges, too.
-pub record StandBetween (style : Style) (aligns : List Alignment) (g : Grid (List ℕ)) (es : List Rectangle) : Type 0 where
-  pub beside : (i j n : ℕ) → i < g.rows → j ≤ g.columns → border Columns style g j ≡ 1 → top style g es i + border Rows style g i ≤ n → n < top style g es (i + 1) → is_joined_beside es i j ≡ false
-      → StandsAt (picture style aligns g es) n (left style g es j) (style.vertical ∷ [])
-  pub above : (i j : ℕ) → i ≤ g.rows → j < g.columns → border Rows style g i ≡ 1 → is_joined_above es i j ≡ false
-      → StandsAt (picture style aligns g es) (top style g es i) (left style g es j + border Columns style g j) (replicate (left style g es (j + 1) - left style g es j - border Columns style g j) style.horizontal)
-  pub around : (i j : ℕ) → i ≤ g.rows → j ≤ g.columns → border Rows style g i ≡ 1 → border Columns style g j ≡ 1 → is_joined_around es i j ≡ false
-      → StandsAt (picture style aligns g es) (top style g es i) (left style g es j) (corner style (meeting g es i j) ∷ [])
+pub record StandBetween (plan : Plan) (aligns : List Alignment) : Type 0 where
+  pub beside : (i j n : ℕ) → i < plan.grid.rows → j ≤ plan.grid.columns → line_width plan j ≡ 1 → top plan i + line_height plan i ≤ n → n < top plan (i + 1) → is_joined_beside plan.merged i j ≡ false
+      → StandsAt (picture_lines plan aligns) n (left plan j) (plan.style.vertical ∷ [])
+  pub above : (i j : ℕ) → i ≤ plan.grid.rows → j < plan.grid.columns → line_height plan i ≡ 1 → is_joined_above plan.merged i j ≡ false
+      → StandsAt (picture_lines plan aligns) (top plan i) (left plan j + line_width plan j) (replicate (left plan (j + 1) - left plan j - line_width plan j) plan.style.horizontal)
+  pub around : (i j : ℕ) → i ≤ plan.grid.rows → j ≤ plan.grid.columns → line_height plan i ≡ 1 → line_width plan j ≡ 1 → is_joined_around plan.merged i j ≡ false
+      → StandsAt (picture_lines plan aligns) (top plan i) (left plan j) (corner plan.style (meeting plan.grid plan.merged i j) ∷ [])
 
 -- No border ends at a corner: where one arm is, there is another. An arm along a border is met by that of the next corner.
 pub record AreMet (g : Grid (List ℕ)) (es : List Rectangle) : Type 0 where
@@ -144,23 +143,23 @@ pub record AreMet (g : Grid (List ℕ)) (es : List Rectangle) : Type 0 where
   pub down : (i j : ℕ) → i < g.rows → (meeting g es i j).down ≡ (meeting g es (i + 1) j).up
 
 -- so do the borders of a table with a cell
-abbrev pub GoOn : Style → List Alignment → Grid (List ℕ) → List Rectangle → Type 0
-GoOn style aligns g es = IsInside g (place 0 0) → AreMet g es
+abbrev pub GoOn : Plan → List Alignment → Type 0
+GoOn plan aligns = IsInside plan.grid (place 0 0) → AreMet plan.grid plan.merged
 
 -- Where one merged cell does not lie at both sides: `|` at an edge of a row, dashes at an edge of a column, and `+` at a
 -- corner, one line and one column wide.
 pub record StandPlain (g : Grid (List ℕ)) (es : List Rectangle) : Type 0 where
-  pub beside : (i j n : ℕ) → i < g.rows → j ≤ g.columns → top ASCII g es i < n → n < top ASCII g es (i + 1) → is_joined_beside es i j ≡ false
-      → StandsAt (picture ASCII [] g es) n (left ASCII g es j) (124 ∷ [])
+  pub beside : (i j n : ℕ) → i < g.rows → j ≤ g.columns → top (plan_of ASCII g es) i < n → n < top (plan_of ASCII g es) (i + 1) → is_joined_beside es i j ≡ false
+      → StandsAt (picture ASCII [] g es) n (left (plan_of ASCII g es) j) (124 ∷ [])
   pub above : (i j : ℕ) → i ≤ g.rows → j < g.columns → is_joined_above es i j ≡ false
-      → StandsAt (picture ASCII [] g es) (top ASCII g es i) (left ASCII g es j + 1) (replicate (left ASCII g es (j + 1) - left ASCII g es j - 1) 45)
+      → StandsAt (picture ASCII [] g es) (top (plan_of ASCII g es) i) (left (plan_of ASCII g es) j + 1) (replicate (left (plan_of ASCII g es) (j + 1) - left (plan_of ASCII g es) j - 1) 45)
   pub around : (i j : ℕ) → i ≤ g.rows → j ≤ g.columns → is_joined_around es i j ≡ false
-      → StandsAt (picture ASCII [] g es) (top ASCII g es i) (left ASCII g es j) (43 ∷ [])
+      → StandsAt (picture ASCII [] g es) (top (plan_of ASCII g es) i) (left (plan_of ASCII g es) j) (43 ∷ [])
 
 -- so stand the borders of a table with a cell in the look that the original crate has by default
-abbrev pub HasPlainBorders : Style → List Alignment → Grid (List ℕ) → List Rectangle → Type 0
-HasPlainBorders style aligns g es = IsInside g (place 0 0) → StandPlain g es
+abbrev pub HasPlainBorders : Plan → List Alignment → Type 0
+HasPlainBorders plan aligns = IsInside plan.grid (place 0 0) → StandPlain plan.grid plan.merged
 
 -- so stand the borders of a table with a cell, in a style whose characters are one column wide
-abbrev pub HasBorders : Style → List Alignment → Grid (List ℕ) → List Rectangle → Type 0
-HasBorders style aligns g es = IsFine style → IsInside g (place 0 0) → StandBetween style aligns g es
+abbrev pub HasBorders : Plan → List Alignment → Type 0
+HasBorders plan aligns = IsFine plan.style → IsInside plan.grid (place 0 0) → StandBetween plan aligns

@@ -1,17 +1,15 @@
 -- What the styles that have a name are made of: which lines they draw, and by which characters.
 use Rattle.std.specs.Prelude.{◌≡◌, ◌≤◌, ◌==◌, ◌&&◌, ◌||◌, if◌then◌else◌, ℕ, Bool, false, true, List, [], ◌∷◌, codes, nat_lt, not}
-use Rattle.tabled_draw.specs.Borders.{Arms, are_none, are_one, border, corner, is_drawn}
+use Rattle.tabled_draw.specs.Borders.{Arms, are_none, are_one, corner, is_drawn}
 use Rattle.tabled_draw.specs.BoxCharacters.{arms_of, horizontal, vertical}
 use Rattle.tabled_draw.specs.Marks.{IsFine}
-use Rattle.tabled_draw.specs.Picture.{left, picture, top}
+use Rattle.tabled_draw.specs.Picture.{Plan, left, line_height, line_width, picture_lines, top}
 use Rattle.tabled_draw.specs.Standing.{StandsAt, is_joined_around, meeting}
 use Rattle.tabled_draw.specs.declared.alignment.Alignment.{Alignment}
 use Rattle.tabled_draw.specs.declared.style.Lines.{Lines}
 use Rattle.tabled_draw.specs.declared.style.Style.{Style}
 use Rattle.tabled_grid.specs.Entity.{place}
-use Rattle.tabled_grid.specs.Grid.{Grid, IsInside}
-use Rattle.tabled_grid.specs.declared.config.rectangle.Rectangle.{Rectangle}
-use Rattle.tabled_grid.specs.declared.records.axis.Axis.TheVariants.{Rows, Columns}
+use Rattle.tabled_grid.specs.Grid.{IsInside}
 
 -- ---- lines
 
@@ -71,11 +69,11 @@ pub record HasArmsAt (characters : List (ℕ × Arms)) (lines : List (List ℕ))
 
 -- where a table with a cell is drawn as boxes, each corner, unless a merged cell lies all round it, has just the arms of
 -- the borders that end there
-abbrev pub HasArmsAtCorners : Style → List Alignment → Grid (List ℕ) → List Rectangle → Type 0
-HasArmsAtCorners style aligns g es =
-    (characters : List (ℕ × Arms)) → IsBox characters style → IsFine style → IsInside g (place 0 0)
-    → (i j : ℕ) → i ≤ g.rows → j ≤ g.columns → border Rows style g i ≡ 1 → border Columns style g j ≡ 1 → is_joined_around es i j ≡ false
-    → HasArmsAt characters (picture style aligns g es) (top style g es i) (left style g es j) (meeting g es i j)
+abbrev pub HasArmsAtCorners : Plan → List Alignment → Type 0
+HasArmsAtCorners plan aligns =
+    (characters : List (ℕ × Arms)) → IsBox characters plan.style → IsFine plan.style → IsInside plan.grid (place 0 0)
+    → (i j : ℕ) → i ≤ plan.grid.rows → j ≤ plan.grid.columns → line_height plan i ≡ 1 → line_width plan j ≡ 1 → is_joined_around plan.merged i j ≡ false
+    → HasArmsAt characters (picture_lines plan aligns) (top plan i) (left plan j) (meeting plan.grid plan.merged i j)
 
 -- borders are these two characters, and each corner with an arm is that which its arms say
 pub record IsMadeOf (level_border upright_border : List ℕ) (corner_of : Arms → List ℕ) (style : Style) : Type 0 where

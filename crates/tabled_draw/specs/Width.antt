@@ -1,10 +1,10 @@
 -- How wide a picture is.
 use Rattle.std.specs.Prelude.{◌≡◌, ◌+◌, ℕ, List, length}
 use Rattle.std.specs.List.{AllByRecursion}
-use Rattle.tabled_draw.specs.Borders.{border, line_size}
+use Rattle.tabled_draw.specs.Borders.{line_size}
 use Rattle.tabled_draw.specs.Marks.{IsFine}
-use Rattle.tabled_draw.specs.Picture.{left, picture}
-use Rattle.tabled_draw.specs.Sizes.{start_of, widths}
+use Rattle.tabled_draw.specs.Picture.{Plan, left, line_width, picture, plan_of, widths}
+use Rattle.tabled_draw.specs.Sizes.{start_of}
 use Rattle.tabled_draw.specs.Texts.{text_width}
 use Rattle.tabled_draw.specs.declared.alignment.Alignment.{Alignment}
 use Rattle.tabled_draw.specs.declared.style.Lines.{Lines}
@@ -12,20 +12,19 @@ use Rattle.tabled_draw.specs.declared.style.Style.{Style}
 use Rattle.tabled_grid.specs.Fitting.{fitting}
 use Rattle.tabled_grid.specs.Grid.{Grid}
 use Rattle.tabled_grid.specs.Spans.{SpanMap, rectangles}
-use Rattle.tabled_grid.specs.declared.config.rectangle.Rectangle.{Rectangle}
 use Rattle.tabled_grid.specs.declared.records.axis.Axis.TheVariants.{Columns}
 
 -- the columns of each line of a picture: those before the table's right edge, and one for that edge if it is drawn
-abbrev pub line_columns : Style → Grid (List ℕ) → List Rectangle → ℕ
-line_columns style g es = left style g es g.columns + border Columns style g g.columns
+abbrev pub line_columns : Plan → ℕ
+line_columns plan = left plan plan.grid.columns + line_width plan plan.grid.columns
 
 -- the columns of each line that is drawn, where of a table's merged cells those count that fit it
 unfoldable pub picture_width : Style → Grid (List ℕ) → SpanMap → ℕ
-picture_width style g m = line_columns style g (fitting g.rows g.columns (rectangles m))
+picture_width style g m = line_columns (plan_of style g (fitting g.rows g.columns (rectangles m)))
 
 -- the widths of the columns of a table, of whose merged cells those count that fit it
 abbrev pub column_widths : Style → Grid (List ℕ) → SpanMap → List ℕ
-column_widths style g m = widths style g (fitting g.rows g.columns (rectangles m))
+column_widths style g m = widths (plan_of style g (fitting g.rows g.columns (rectangles m)))
 
 -- the columns of a line where columns have these widths: with the borders between and around them, and what stands beside texts
 abbrev pub width_of_columns : Lines → List ℕ → ℕ

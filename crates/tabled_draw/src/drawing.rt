@@ -1,14 +1,12 @@
 //! Tables that are laid out.
 
 ghost use Rattle.std.specs.Prelude.{◌≡◌, ◌+◌, ◌<◌, IfOk, IsTrue, OnErr, OnOk, length};
-ghost use Rattle.tabled_draw.specs.Bands.{HasRoom, IsBand, IsSheet};
 ghost use Rattle.tabled_draw.specs.Borders.{is_drawn};
-ghost use Rattle.tabled_draw.specs.Lines.{AreUnmerged, EndInside, begun};
-ghost use Rattle.tabled_draw.specs.Looks.{drawn_in};
+ghost use Rattle.tabled_draw.specs.Laid.{HasRoom, IsBand, IsSheet};
+ghost use Rattle.tabled_draw.specs.Lines.{AreBegun, AreCutIf, EndInside, begun, bytes_in, drawn_border, drawn_picture, drawn_row, plan_on};
 ghost use Rattle.tabled_draw.specs.Pens.{Draws};
-ghost use Rattle.tabled_draw.specs.Picture.{drawn};
-ghost use Rattle.tabled_draw.specs.Rests.{AreBegun, AreCutIf};
-ghost use Rattle.tabled_draw.specs.Sheets.{border_on, picture_on, row_on};
+ghost use Rattle.tabled_draw.specs.Picture.{drawn, drawn_in};
+ghost use Rattle.tabled_draw.specs.Unmerged.{AreUnmerged};
 ghost use Rattle.tabled_draw.specs.Width.{picture_width};
 ghost use Rattle.tabled_grid.specs.Grid.{IsInside, map_grid};
 
@@ -59,14 +57,14 @@ where
     R::Cell: CellText,
 {
     ghost use Rattle.std.specs.Prelude.{ℕ, List};
-    ghost use Rattle.tabled_draw.specs.Picture.{picture_bytes};
-    ghost use Rattle.tabled_draw.specs.Drawings.{IsLaidOut};
+    ghost use Rattle.tabled_draw.specs.Laid.{IsLaidOut};
+    ghost use Rattle.tabled_draw.specs.Picture.{bytes_of_lines, picture};
     ghost use Rattle.tabled_grid.specs.Spans.{rectangles};
     ghost use Rattle.tabled_grid.specs.Grid.{map_grid};
 
     ghost Value = { List ℕ };
 
-    ghost view = { λ a. picture_bytes a.look.style a.look.alignments.now (map_grid R.Cell.text_of (R.grid a.records.now)) (rectangles a.spans) };
+    ghost view = { λ a. bytes_of_lines (picture a.look.style a.look.alignments.now (map_grid R.Cell.text_of (R.grid a.records.now)) (rectangles a.spans)) };
 
     ghost invariant = { λ a. R.is_well_formed a.records.now × IsLaidOut (map_grid R.Cell.text_of (R.grid a.records.now)) a };
 }
@@ -216,7 +214,7 @@ where
     requires next { band.old.next ≡ 0 }
     requires high { 0 < (R.grid records.now).rows }
     requires wide { 0 < (R.grid records.now).columns }
-    ensures { Draws W.contents pen.old pen.new (picture_on sheet.now (map_grid R.Cell.text_of (R.grid records.now)) spans.now) }
+    ensures { Draws W.contents pen.old pen.new (drawn_picture sheet.now (map_grid R.Cell.text_of (R.grid records.now)) spans.now) }
 {
     clear(&mut band.above);
     for i in 0..sheet.rows {
@@ -255,9 +253,9 @@ where
     requires sheet { IsSheet (map_grid R.Cell.text_of (R.grid records.now)) spans.now sheet.now }
     requires row { i < (R.grid records.now).rows }
     requires wide { 0 < (R.grid records.now).columns }
-    requires band { IsBand sheet.now.look.style (map_grid R.Cell.text_of (R.grid records.now)) spans.now i band.old }
-    ensures band { IsBand sheet.now.look.style (map_grid R.Cell.text_of (R.grid records.now)) spans.now (i + 1) band.new }
-    ensures draws { Draws W.contents pen.old pen.new (row_on sheet.now (map_grid R.Cell.text_of (R.grid records.now)) spans.now i) }
+    requires band { IsBand (plan_on sheet.now (map_grid R.Cell.text_of (R.grid records.now)) spans.now) i band.old }
+    ensures band { IsBand (plan_on sheet.now (map_grid R.Cell.text_of (R.grid records.now)) spans.now) (i + 1) band.new }
+    ensures draws { Draws W.contents pen.old pen.new (drawn_row sheet.now (map_grid R.Cell.text_of (R.grid records.now)) spans.now i) }
 {
     band.next = write_owners(records, spans, band.next, i, &band.above, &mut band.here);
     let is_unmerged = are_unmerged(spans, &band.above, &band.here, i);
@@ -293,7 +291,7 @@ fn write_border<'a, W: Write>(
     requires inside { EndInside (length rests.old.items) above.now }
     requires unmerged { IsTrue is_unmerged → AreUnmerged sheet.now.rows (length rests.old.items) i above.now below.now }
     ensures long { length rests.new.items ≡ length rests.old.items }
-    ensures draws { Draws W.contents pen.old pen.new (border_on sheet.now i above.now below.now rests.old.items) }
+    ensures draws { Draws W.contents pen.old pen.new (drawn_border sheet.now i above.now below.now (length rests.old.items) (bytes_in rests.old.items)) }
     ensures rests { AreCutIf (is_drawn sheet.now.look.style.rows sheet.now.rows i) above.now below.now rests.old.items rests.new.items }
 {
     if !is_drawn(sheet.look.style.rows, sheet.rows, i) {

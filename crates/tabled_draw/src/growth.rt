@@ -28,7 +28,7 @@ where
     R: Records + ExactRecords + PeekableRecords,
     R::Cell: CellText,
     requires well { R.is_well_formed records.now }
-    requires fits { Fits spans.now ((R.grid records.now).rows) ((R.grid records.now).columns) }
+    requires fits { Fits spans.now (R.grid records.now).rows (R.grid records.now).columns }
     requires long { length sizes.old.items ≡ count_along axis (R.grid records.now) }
     ensures long { OnOk result (length sizes.new.items ≡ count_along axis (R.grid records.now)) }
     ensures grown { OnOk result (sizes.new.items ≡ grown axis style.now (map_grid R.Cell.text_of (R.grid records.now)) (rectangles spans.now) sizes.old.items) }

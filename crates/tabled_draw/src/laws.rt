@@ -1,6 +1,6 @@
 //! Laws of pictures. Each is the contract of a function that does nothing.
 
-ghost use Rattle.std.specs.Prelude.{◌≡◌, ◌+◌, ℕ, List, Some, codes, length, map};
+ghost use Rattle.std.specs.Prelude.{◌≡◌, ℕ, List, codes, map};
 ghost use Rattle.tabled_draw.specs.BoxCharacters.{double_lines, round_lines, sharp_lines};
 ghost use Rattle.tabled_draw.specs.Markdown.{markdown, markdown_lines};
 ghost use Rattle.tabled_draw.specs.MarkdownRead.{IsReadAs};

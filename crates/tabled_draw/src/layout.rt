@@ -3,9 +3,9 @@
 ghost use Rattle.std.specs.Prelude.{◌≡◌, ◌+◌, ◌<◌, IfOk, length};
 ghost use Rattle.tabled_grid.specs.Spans.{rectangles};
 ghost use Rattle.tabled_draw.specs.Laid.{AreEdgesOf, IsLayout};
-ghost use Rattle.tabled_draw.specs.Measured.{Measured, raised};
-ghost use Rattle.tabled_draw.specs.OwnerRows.{IsOwnerRow};
-ghost use Rattle.tabled_draw.specs.Sizes.{own_sizes};
+ghost use Rattle.tabled_draw.specs.Owners.{IsOwnerRow};
+ghost use Rattle.tabled_draw.specs.Picture.{plan_of};
+ghost use Rattle.tabled_draw.specs.Sizes.{Measured, own_sizes, raised};
 ghost use Rattle.tabled_grid.specs.Grid.{IsInside, map_grid};
 ghost use Rattle.tabled_grid.specs.Fitting.{Fits};
 ghost use Rattle.tabled_grid.specs.declared.records.axis.Axis.TheVariants.{Rows, Columns};
@@ -44,8 +44,8 @@ where
     R: Records + ExactRecords + PeekableRecords,
     R::Cell: CellText,
     requires well { R.is_well_formed records.now }
-    requires fits { Fits spans.now ((R.grid records.now).rows) ((R.grid records.now).columns) }
-    ensures { IfOk result (λ layout. IsLayout style.now (map_grid R.Cell.text_of (R.grid records.now)) spans.now layout) }
+    requires fits { Fits spans.now (R.grid records.now).rows (R.grid records.now).columns }
+    ensures { IfOk result (λ layout. IsLayout (plan_of style.now (map_grid R.Cell.text_of (R.grid records.now)) (rectangles spans.now)) layout) }
 {
     let columns = records.count_columns();
     let mut above = owner_row(alloc, columns)?;
@@ -85,7 +85,7 @@ where
     R: Records + ExactRecords + PeekableRecords,
     R::Cell: CellText,
     requires well { R.is_well_formed records.now }
-    requires fits { Fits spans.now ((R.grid records.now).rows) ((R.grid records.now).columns) }
+    requires fits { Fits spans.now (R.grid records.now).rows (R.grid records.now).columns }
     requires above { length above.old.items ≡ (R.grid records.now).columns + 2 }
     requires here { length here.old.items ≡ (R.grid records.now).columns + 2 }
     requires widths { Measured Columns (map_grid R.Cell.text_of (R.grid records.now)) (rectangles spans.now) 0 0 widths.old.items }
@@ -118,7 +118,7 @@ where
     R::Cell: CellText,
     requires well { R.is_well_formed records.now }
     requires row { i < (R.grid records.now).rows }
-    requires here { IsOwnerRow ((R.grid records.now).rows) ((R.grid records.now).columns) spans.now (i + 1) here.now.items }
+    requires here { IsOwnerRow (R.grid records.now).rows (R.grid records.now).columns (rectangles spans.now) (i + 1) here.now.items }
     requires widths { Measured Columns (map_grid R.Cell.text_of (R.grid records.now)) (rectangles spans.now) i 0 widths.old.items }
     requires heights { Measured Rows (map_grid R.Cell.text_of (R.grid records.now)) (rectangles spans.now) i 0 heights.old.items }
     ensures widths { Measured Columns (map_grid R.Cell.text_of (R.grid records.now)) (rectangles spans.now) (i + 1) 0 widths.new.items }

@@ -17,6 +17,7 @@ mod pen;
 mod pictures;
 mod sheet;
 mod style;
+mod styles;
 mod texts;
 mod width;
 

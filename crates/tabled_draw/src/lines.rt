@@ -2,11 +2,10 @@
 
 ghost use Rattle.std.specs.Prelude.{◌≡◌, ◌+◌, ◌<◌, [], IfOk, OnOk, Some, encode_utf8, encode_utf8_all, false, length, slice_index_or, true};
 ghost use Rattle.std.specs.Io.KnownBytes.{Appends};
-ghost use Rattle.tabled_draw.specs.Borders.{differ};
-ghost use Rattle.tabled_draw.specs.Lines.{EndInside, IsBetween, left_inside, marked};
+ghost use Rattle.tabled_draw.specs.Borders.{differ, edge, size_if};
+ghost use Rattle.tabled_draw.specs.Lines.{AreCut, EndInside, IsCutAt, bytes_in, column, drawn_line, drawn_unmerged, left_inside, text_inside};
 ghost use Rattle.tabled_draw.specs.Pens.{Draws};
-ghost use Rattle.tabled_draw.specs.Rests.{AreCut, IsCutAt, bytes_in};
-ghost use Rattle.tabled_draw.specs.Sheets.{column_on, edge_on, level_on, line_on, text_on, unmerged_line_on};
+ghost use Rattle.tabled_draw.specs.Unmerged.{IsBetween, level, marked};
 ghost use Rattle.tabled_grid.specs.declared.config.rectangle.Rectangle.{Rectangle};
 
 use crate::alignment::alignment_in;
@@ -34,21 +33,21 @@ pub(crate) fn write_row_line<'a, W: Write>(
     requires columns { sheet.now.columns ≡ length rests.old.items }
     requires inside { EndInside (length rests.old.items) owners.now }
     ensures long { length rests.new.items ≡ length rests.old.items }
-    ensures draws { Draws W.contents pen.old pen.new (line_on sheet.now true owners.now owners.now rests.old.items) }
+    ensures draws { Draws W.contents pen.old pen.new (drawn_line sheet.now true owners.now owners.now (length rests.old.items) (bytes_in rests.old.items)) }
     ensures rests { AreCut owners.now owners.now rests.old.items rests.new.items }
 {
-    let lines = sheet.look.style.columns;
+    let drawn_columns = sheet.look.style.columns;
     let columns = rests.len();
     let mut room = [0; 4];
     let upright = sheet.look.style.vertical.encode_utf8(&mut room).as_bytes();
-    let mut drawn = is_drawn(lines, columns, 0);
+    let mut drawn = is_drawn(drawn_columns, columns, 0);
     for j in 0..columns {
         let owner = owners[j + 1];
         write_upright(pen, sheet, upright, drawn, owners[j], owner);
         rests[j] = write_inside(pen, sheet, drawn, j, owner, rests[j]);
-        drawn = is_drawn_after(lines, j);
+        drawn = is_drawn_after(drawn_columns, j);
     }
-    let drawn = is_drawn(lines, columns, columns);
+    let drawn = is_drawn(drawn_columns, columns, columns);
     write_upright(
         pen,
         sheet,
@@ -74,12 +73,12 @@ pub(crate) fn write_border_line<'a, W: Write>(
     requires columns { sheet.now.columns ≡ length rests.old.items }
     requires inside { EndInside (length rests.old.items) above.now }
     ensures long { length rests.new.items ≡ length rests.old.items }
-    ensures draws { Draws W.contents pen.old pen.new (line_on sheet.now false above.now below.now rests.old.items) }
+    ensures draws { Draws W.contents pen.old pen.new (drawn_line sheet.now false above.now below.now (length rests.old.items) (bytes_in rests.old.items)) }
     ensures rests { AreCut above.now below.now rests.old.items rests.new.items }
 {
-    let lines = sheet.look.style.columns;
+    let drawn_columns = sheet.look.style.columns;
     let columns = rests.len();
-    let mut drawn = is_drawn(lines, columns, 0);
+    let mut drawn = is_drawn(drawn_columns, columns, 0);
     let mut left = differ(above[0], below[0]);
     for j in 0..columns {
         let over = above[j + 1];
@@ -94,10 +93,10 @@ pub(crate) fn write_border_line<'a, W: Write>(
             (left, right),
         );
         write_column(pen, sheet, drawn, right, j, over, rests);
-        drawn = is_drawn_after(lines, j);
+        drawn = is_drawn_after(drawn_columns, j);
         left = right;
     }
-    let drawn = is_drawn(lines, columns, columns);
+    let drawn = is_drawn(drawn_columns, columns, columns);
     let right = differ(above[columns + 1], below[columns + 1]);
     write_corner(
         pen,
@@ -112,23 +111,23 @@ pub(crate) fn write_border_line<'a, W: Write>(
 
 /// Writes the line above row i of a table without merged cells, or below its last row.
 fn write_unmerged_line<W: Write>(pen: &mut Pen<'_, W>, sheet: &Sheet<'_>, i: usize)
-    ensures draws { Draws W.contents pen.old pen.new (unmerged_line_on sheet.now i) }
+    ensures draws { Draws W.contents pen.old pen.new (drawn_unmerged sheet.now i) }
 {
-    let lines = sheet.look.style.columns;
+    let drawn_columns = sheet.look.style.columns;
     let columns = sheet.columns;
     let up = 0 < i;
     let down = i < sheet.rows;
     let inner = corner(&sheet.look.style, up, true, down, true);
     let mut mark = corner(&sheet.look.style, up, true, down, false);
-    let mut drawn = is_drawn(lines, columns, 0);
+    let mut drawn = is_drawn(drawn_columns, columns, 0);
     for j in 0..columns {
         write_mark(pen, drawn, mark);
         write_level(pen, sheet, drawn, j);
         mark = inner;
-        drawn = is_drawn_after(lines, j);
+        drawn = is_drawn_after(drawn_columns, j);
     }
     let last = corner(&sheet.look.style, up, false, down, 0 < columns);
-    write_mark(pen, is_drawn(lines, columns, columns), last);
+    write_mark(pen, is_drawn(drawn_columns, columns, columns), last);
     pen.end_line();
 }
 
@@ -155,7 +154,7 @@ fn write_first_line_between<W: Write>(
     sheet: &Sheet<'_>,
 ) -> io::Result<()>
     requires { held.bytes ≡ [] }
-    ensures { OnOk result (Appends (W.contents writer.old) (W.contents writer.new) (encode_utf8_all (unmerged_line_on sheet.now 1))) }
+    ensures { OnOk result (Appends (W.contents writer.old) (W.contents writer.new) (encode_utf8_all (drawn_unmerged sheet.now 1))) }
 {
     let mut pen = Pen::new(writer, held);
     write_unmerged_line(&mut pen, sheet, 1);
@@ -168,7 +167,7 @@ fn write_first_line_between<W: Write>(
 /// Writes the line above row i of a table, or below its last row, at which no merged cell lies. Its bytes may be known,
 /// if it is between two rows.
 pub(crate) fn write_known_line<W: Write>(pen: &mut Pen<'_, W>, sheet: &Sheet<'_>, i: usize)
-    ensures draws { Draws W.contents pen.old pen.new (unmerged_line_on sheet.now i) }
+    ensures draws { Draws W.contents pen.old pen.new (drawn_unmerged sheet.now i) }
 {
     if sheet.between.is_empty() || i == 0 || sheet.rows <= i {
         write_unmerged_line(pen, sheet, i);
@@ -198,7 +197,7 @@ fn write_upright<W: Write>(
     after: Owner,
 )
     requires { upright.now ≡ encode_utf8 sheet.now.look.style.vertical }
-    ensures { Draws W.contents pen.old pen.new (edge_on sheet.now true drawn before after before after) }
+    ensures { Draws W.contents pen.old pen.new (edge sheet.now.look.style true (size_if drawn) before after before after) }
 {
     if drawn && differ(before, after) {
         pen.draw_known(sheet.look.style.vertical, upright);
@@ -218,7 +217,7 @@ fn write_corner<W: Write>(
 )
     requires left { beside.0 ≡ differ above.0 below.0 }
     requires right { beside.1 ≡ differ above.1 below.1 }
-    ensures { Draws W.contents pen.old pen.new (edge_on sheet.now false drawn above.0 above.1 below.0 below.1) }
+    ensures { Draws W.contents pen.old pen.new (edge sheet.now.look.style false (size_if drawn) above.0 above.1 below.0 below.1) }
 {
     if !drawn {
         return;
@@ -243,7 +242,7 @@ fn write_column<W: Write>(
     requires end { (o : Rectangle) → owner ≡ Some o → o.first.col ≡ j → j + o.size.width < length sheet.now.edges.now }
     requires col { j + 1 < length sheet.now.edges.now }
     requires rest { j < length rests.old.items }
-    ensures draws { Draws W.contents pen.old pen.new (column_on sheet.now drawn apart j owner (slice_index_or (bytes_in rests.old.items) j [])) }
+    ensures draws { Draws W.contents pen.old pen.new (column sheet.now drawn apart j owner (slice_index_or (bytes_in rests.old.items) j [])) }
     ensures rests { IsCutAt j apart owner rests.old.items rests.new.items }
 {
     if apart {
@@ -257,7 +256,7 @@ fn write_column<W: Write>(
 #[inline(always)]
 fn write_level<W: Write>(pen: &mut Pen<'_, W>, sheet: &Sheet<'_>, drawn: bool, j: usize)
     requires col { j + 1 < length sheet.now.edges.now }
-    ensures { Draws W.contents pen.old pen.new (level_on sheet.now drawn j) }
+    ensures { Draws W.contents pen.old pen.new (level sheet.now.look.style drawn sheet.now.edges.now j) }
 {
     let inside = sheet.edges[j + 1]
         .saturating_sub(sheet.edges[j])
@@ -278,7 +277,7 @@ fn write_crossing<W: Write>(
     requires end { (o : Rectangle) → owner ≡ Some o → o.first.col ≡ j → j + o.size.width < length sheet.now.edges.now }
     requires col { j < length sheet.now.edges.now }
     requires rest { j < length rests.old.items }
-    ensures draws { Draws W.contents pen.old pen.new (text_on sheet.now drawn j owner (slice_index_or (bytes_in rests.old.items) j [])) }
+    ensures draws { Draws W.contents pen.old pen.new (text_inside sheet.now drawn j owner (slice_index_or (bytes_in rests.old.items) j [])) }
     ensures rests { IsCutAt j false owner rests.old.items rests.new.items }
 {
     rests[j] = write_inside(pen, sheet, drawn, j, owner, rests[j]);
@@ -296,7 +295,7 @@ fn write_inside<'a, W: Write>(
 ) -> &'a str
     requires end { (o : Rectangle) → owner ≡ Some o → o.first.col ≡ j → j + o.size.width < length sheet.now.edges.now }
     requires col { j < length sheet.now.edges.now }
-    ensures draws { Draws W.contents pen.old pen.new (text_on sheet.now drawn j owner rest.now) }
+    ensures draws { Draws W.contents pen.old pen.new (text_inside sheet.now drawn j owner rest.now) }
     ensures rest { result.now ≡ left_inside j owner rest.now }
 {
     match owner {

@@ -4,11 +4,9 @@ ghost use Rattle.std.specs.Prelude.{◌≡◌, ◌++◌, ◌∷◌, [], IfErr, I
 ghost use Rattle.std.specs.Io.KnownBytes.{Appends};
 ghost use Rattle.tabled_draw.specs.Alignments.{aligned};
 ghost use Rattle.tabled_draw.specs.Each.{each};
-ghost use Rattle.tabled_draw.specs.Failures.{LeavesSome};
-ghost use Rattle.tabled_draw.specs.Markdown.{dashes, dashes_line, first_dash, last_dash, lines_at, markdown, row_line};
-ghost use Rattle.tabled_draw.specs.MarkdownTexts.{characters, rows_of_characters};
+ghost use Rattle.tabled_draw.specs.Markdown.{characters, dashes, dashes_line, first_dash, last_dash, lines_at, markdown, row_line, rows_of_characters};
 ghost use Rattle.tabled_draw.specs.Pens.{Draws};
-ghost use Rattle.tabled_draw.specs.Picture.{with_newlines};
+ghost use Rattle.tabled_draw.specs.Picture.{LeavesSome, with_newlines};
 ghost use Rattle.tabled_grid.specs.Evenness.{AreWide};
 ghost use Rattle.tabled_grid.specs.Grid.{map_grid, map_items};
 ghost use Rattle.tabled_held.specs.Sent.{IsCutShort};
@@ -69,8 +67,7 @@ pub struct Markdown<'a> {
 
 impl<'a> Model for Markdown<'a> {
     ghost use Rattle.std.specs.Prelude.{◌≡◌, ℕ, [], List, None, length};
-    ghost use Rattle.tabled_draw.specs.Markdown.{lines_of};
-    ghost use Rattle.tabled_draw.specs.MarkdownTexts.{rows_of_characters};
+    ghost use Rattle.tabled_draw.specs.Markdown.{lines_of, rows_of_characters};
     ghost use Rattle.tabled_draw.specs.Picture.{bytes_of_lines};
     ghost use Rattle.tabled_grid.specs.Evenness.{AreWide};
     ghost use Rattle.tabled_grid.specs.Grid.{map_items};

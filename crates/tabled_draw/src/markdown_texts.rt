@@ -1,15 +1,11 @@
 //! What stands for texts in Markdown.
 
-ghost use Rattle.std.specs.Prelude.{◌≡◌, ◌++◌, ◌<◌, IfOk, IsTrue, OnOk, chars, encode_utf8_all, codes, length, map};
+ghost use Rattle.std.specs.Prelude.{◌≡◌, ◌++◌, ◌<◌, IfOk, OnOk, chars, encode_utf8_all, codes, length, map};
 ghost use Rattle.std.specs.Fmt.{decimal};
 ghost use Rattle.std.specs.String.{string_bytes};
-ghost use Rattle.tabled_draw.specs.Markdown.{markdown_widths, escape, escaped, goes_on, is_mark, is_markup, is_numbered, rows_apart};
-ghost use Rattle.tabled_draw.specs.MarkdownTexts.{AreRaised, AreRowsApart, IsCellApart, IsRowApart, characters, rows_of_characters};
-ghost use Rattle.tabled_grid.specs.Entity.{place};
+ghost use Rattle.tabled_draw.specs.Markdown.{AreRaised, AreRowsApart, IsCellApart, IsOver, IsRowApart, characters, escape, escaped, goes_on, is_mark, is_markup, is_numbered, markdown_widths, rows_of_characters, texts_apart};
 ghost use Rattle.tabled_grid.specs.Evenness.{AreWide};
-ghost use Rattle.tabled_grid.specs.Fitting.{fitting};
 ghost use Rattle.tabled_grid.specs.Grid.{IsInside, map_grid, map_items};
-ghost use Rattle.tabled_grid.specs.Spans.{rectangles};
 
 use std::alloc::{AllocError, Global};
 use tabled_grid::config::{CoverMap, Position, SpannedConfig};
@@ -30,7 +26,7 @@ where
     R: Records + ExactRecords + PeekableRecords,
     R::Cell: CellText,
     requires well { R.is_well_formed records.now }
-    ensures texts { IfOk result (λ rows. rows_of_characters rows.items ≡ rows_apart (map_grid R.Cell.text_of (R.grid records.now)) (fitting (R.grid records.now).rows (R.grid records.now).columns (rectangles cfg.now))) }
+    ensures texts { IfOk result (λ rows. rows_of_characters rows.items ≡ texts_apart (map_grid R.Cell.text_of (R.grid records.now)) cfg.now) }
     ensures wide { IfOk result (λ rows. AreWide (R.grid records.now).columns (map_items rows.items)) }
 {
     let rows = records.count_rows();
@@ -50,9 +46,7 @@ where
     R: Records + ExactRecords + PeekableRecords,
     R::Cell: CellText,
     requires well { R.is_well_formed records.now }
-    requires first { cover.now.first ≡ place 0 0 }
-    requires rows { cover.now.rows ≡ (R.grid records.now).rows }
-    requires columns { cover.now.columns ≡ (R.grid records.now).columns }
+    requires over { IsOver (R.grid records.now) cover.now }
     ensures wide { IfOk result (λ texts. AreWide (R.grid records.now).columns (map_items texts.items)) }
     ensures texts { IfOk result (λ texts. AreRowsApart (map_grid R.Cell.text_of (R.grid records.now)) cover.now texts.items) }
 {
@@ -75,9 +69,7 @@ where
     R::Cell: CellText,
     requires well { R.is_well_formed records.now }
     requires row { i < (R.grid records.now).rows }
-    requires first { cover.now.first ≡ place 0 0 }
-    requires rows { cover.now.rows ≡ (R.grid records.now).rows }
-    requires columns { cover.now.columns ≡ (R.grid records.now).columns }
+    requires over { IsOver (R.grid records.now) cover.now }
     ensures long { IfOk result (λ row. length row.items ≡ (R.grid records.now).columns) }
     ensures texts { IfOk result (λ row. IsRowApart (map_grid R.Cell.text_of (R.grid records.now)) cover.now i row.items) }
 {
@@ -100,9 +92,7 @@ where
     R::Cell: CellText,
     requires well { R.is_well_formed records.now }
     requires inside { IsInside (R.grid records.now) pos }
-    requires first { cover.now.first ≡ place 0 0 }
-    requires rows { cover.now.rows ≡ (R.grid records.now).rows }
-    requires columns { cover.now.columns ≡ (R.grid records.now).columns }
+    requires over { IsOver (R.grid records.now) cover.now }
     ensures { IfOk result (λ text. IsCellApart (map_grid R.Cell.text_of (R.grid records.now)) cover.now pos text) }
 {
     if cover.is_hidden(pos) {

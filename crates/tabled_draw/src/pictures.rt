@@ -3,9 +3,7 @@
 ghost use Rattle.std.specs.Prelude.{◌≡◌, IfErr, IfOk, OnOk};
 ghost use Rattle.std.specs.Io.KnownBytes.{Appends};
 ghost use Rattle.std.specs.String.{string_bytes};
-ghost use Rattle.tabled_draw.specs.Failures.{LeavesSome};
-ghost use Rattle.tabled_draw.specs.Looks.{drawn_in};
-ghost use Rattle.tabled_draw.specs.Picture.{drawn};
+ghost use Rattle.tabled_draw.specs.Picture.{LeavesSome, drawn, drawn_in};
 ghost use Rattle.tabled_grid.specs.Grid.{map_grid};
 
 use crate::drawing::Drawing;

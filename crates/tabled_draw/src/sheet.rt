@@ -1,8 +1,8 @@
 //! What all lines of a picture share.
 
 ghost use Rattle.std.specs.Prelude.{◌≡◌, ◌+◌, length};
-ghost use Rattle.tabled_draw.specs.Lines.{IsBetween};
 ghost use Rattle.tabled_draw.specs.Runs.{run_of};
+ghost use Rattle.tabled_draw.specs.Unmerged.{IsBetween};
 
 use crate::look::Look;
 

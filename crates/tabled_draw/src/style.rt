@@ -94,7 +94,7 @@ const LIGHT_CORNERS: [char; 16] = [
 ];
 
 impl Style {
-    const ASCII: Style = Style {
+    pub(crate) const ASCII: Style = Style {
         horizontal: '-',
         vertical: '|',
         corners: ['+'; 16],
@@ -102,7 +102,7 @@ impl Style {
         columns: Lines::ALL,
     };
 
-    const MODERN: Style = Style {
+    pub(crate) const MODERN: Style = Style {
         horizontal: '─',
         vertical: '│',
         corners: LIGHT_CORNERS,
@@ -110,7 +110,7 @@ impl Style {
         columns: Lines::ALL,
     };
 
-    const SHARP: Style = Style {
+    pub(crate) const SHARP: Style = Style {
         horizontal: '─',
         vertical: '│',
         corners: LIGHT_CORNERS,
@@ -118,7 +118,7 @@ impl Style {
         columns: Lines::ALL,
     };
 
-    const ROUNDED: Style = Style {
+    pub(crate) const ROUNDED: Style = Style {
         horizontal: '─',
         vertical: '│',
         corners: [
@@ -128,7 +128,7 @@ impl Style {
         columns: Lines::ALL,
     };
 
-    const EXTENDED: Style = Style {
+    pub(crate) const EXTENDED: Style = Style {
         horizontal: '═',
         vertical: '║',
         corners: [
@@ -138,7 +138,7 @@ impl Style {
         columns: Lines::ALL,
     };
 
-    const PSQL: Style = Style {
+    pub(crate) const PSQL: Style = Style {
         horizontal: '-',
         vertical: '|',
         corners: [
@@ -148,7 +148,7 @@ impl Style {
         columns: Lines::INNER,
     };
 
-    const MARKDOWN: Style = Style {
+    pub(crate) const MARKDOWN: Style = Style {
         horizontal: '-',
         vertical: '|',
         corners: [
@@ -158,7 +158,7 @@ impl Style {
         columns: Lines::ALL,
     };
 
-    const RE_STRUCTURED_TEXT: Style = Style {
+    pub(crate) const RE_STRUCTURED_TEXT: Style = Style {
         horizontal: '=',
         vertical: ' ',
         corners: [
@@ -168,7 +168,7 @@ impl Style {
         columns: Lines::INNER,
     };
 
-    const DOTS: Style = Style {
+    pub(crate) const DOTS: Style = Style {
         horizontal: '.',
         vertical: ':',
         corners: [
@@ -178,7 +178,7 @@ impl Style {
         columns: Lines::ALL,
     };
 
-    const ASCII_ROUNDED: Style = Style {
+    pub(crate) const ASCII_ROUNDED: Style = Style {
         horizontal: '-',
         vertical: '|',
         corners: [
@@ -188,7 +188,7 @@ impl Style {
         columns: Lines::ALL,
     };
 
-    const BLANK: Style = Style {
+    pub(crate) const BLANK: Style = Style {
         horizontal: ' ',
         vertical: ' ',
         corners: [' '; 16],
@@ -196,7 +196,7 @@ impl Style {
         columns: Lines::INNER,
     };
 
-    const EMPTY: Style = Style {
+    pub(crate) const EMPTY: Style = Style {
         horizontal: ' ',
         vertical: ' ',
         corners: [' '; 16],
@@ -243,199 +243,6 @@ impl Style {
             "empty" => Some(Style::EMPTY),
             _ => None,
         }
-    }
-
-    /// Lines of `-` and `|`, and `+` at corners: the default.
-    ///
-    /// ```text
-    /// +---+-----+
-    /// | a | b   |
-    /// +---+-----+
-    /// | 1 | 234 |
-    /// +---+-----+
-    /// ```
-    ///
-    /// Ported from `tabled::settings::Style::ascii`.
-    pub fn ascii() -> Self
-        ensures { result ≡ style.ASCII }
-    {
-        Style::ASCII
-    }
-
-    /// Lines as in boxes.
-    ///
-    /// ```text
-    /// ┌───┬─────┐
-    /// │ a │ b   │
-    /// ├───┼─────┤
-    /// │ 1 │ 234 │
-    /// └───┴─────┘
-    /// ```
-    ///
-    /// Ported from `tabled::settings::Style::modern`.
-    pub fn modern() -> Self
-        ensures { result ≡ style.MODERN }
-    {
-        Style::MODERN
-    }
-
-    /// Lines as in boxes with round corners, and between rows only that below the first.
-    ///
-    /// ```text
-    /// ╭───┬─────╮
-    /// │ a │ b   │
-    /// ├───┼─────┤
-    /// │ 1 │ 234 │
-    /// ╰───┴─────╯
-    /// ```
-    ///
-    /// Ported from `tabled::settings::Style::rounded`.
-    pub fn rounded() -> Self
-        ensures { result ≡ style.ROUNDED }
-    {
-        Style::ROUNDED
-    }
-
-    /// Lines as in boxes, and between rows only that below the first.
-    ///
-    /// ```text
-    /// ┌───┬─────┐
-    /// │ a │ b   │
-    /// ├───┼─────┤
-    /// │ 1 │ 234 │
-    /// └───┴─────┘
-    /// ```
-    ///
-    /// Ported from `tabled::settings::Style::sharp`.
-    pub fn sharp() -> Self
-        ensures { result ≡ style.SHARP }
-    {
-        Style::SHARP
-    }
-
-    /// Double lines.
-    ///
-    /// ```text
-    /// ╔═══╦═════╗
-    /// ║ a ║ b   ║
-    /// ╠═══╬═════╣
-    /// ║ 1 ║ 234 ║
-    /// ╚═══╩═════╝
-    /// ```
-    ///
-    /// Ported from `tabled::settings::Style::extended`.
-    pub fn extended() -> Self
-        ensures { result ≡ style.EXTENDED }
-    {
-        Style::EXTENDED
-    }
-
-    /// As PostgreSQL's client shows tables.
-    ///
-    /// ```text
-    ///  a | b
-    /// ---+-----
-    ///  1 | 234
-    /// ```
-    ///
-    /// Ported from `tabled::settings::Style::psql`.
-    pub fn psql() -> Self
-        ensures { result ≡ style.PSQL }
-    {
-        Style::PSQL
-    }
-
-    /// A table of Markdown.
-    ///
-    /// ```text
-    /// | a | b   |
-    /// |---|-----|
-    /// | 1 | 234 |
-    /// ```
-    ///
-    /// Ported from `tabled::settings::Style::markdown`.
-    pub fn markdown() -> Self
-        ensures { result ≡ style.MARKDOWN }
-    {
-        Style::MARKDOWN
-    }
-
-    /// A simple table of reStructuredText.
-    ///
-    /// ```text
-    /// === =====
-    ///  a   b
-    /// === =====
-    ///  1   234
-    /// === =====
-    /// ```
-    ///
-    /// Ported from `tabled::settings::Style::re_structured_text`.
-    pub fn re_structured_text() -> Self
-        ensures { result ≡ style.RE_STRUCTURED_TEXT }
-    {
-        Style::RE_STRUCTURED_TEXT
-    }
-
-    /// Lines of dots.
-    ///
-    /// ```text
-    /// ...........
-    /// : a : b   :
-    /// :...:.....:
-    /// : 1 : 234 :
-    /// :...:.....:
-    /// ```
-    ///
-    /// Ported from `tabled::settings::Style::dots`.
-    pub fn dots() -> Self
-        ensures { result ≡ style.DOTS }
-    {
-        Style::DOTS
-    }
-
-    /// A frame with round corners, and no line between rows.
-    ///
-    /// ```text
-    /// .---------.
-    /// | a | b   |
-    /// | 1 | 234 |
-    /// '---------'
-    /// ```
-    ///
-    /// Ported from `tabled::settings::Style::ascii_rounded`.
-    pub fn ascii_rounded() -> Self
-        ensures { result ≡ style.ASCII_ROUNDED }
-    {
-        Style::ASCII_ROUNDED
-    }
-
-    /// A blank between columns, and no line.
-    ///
-    /// ```text
-    ///  a   b
-    ///  1   234
-    /// ```
-    ///
-    /// Ported from `tabled::settings::Style::blank`.
-    pub fn blank() -> Self
-        ensures { result ≡ style.BLANK }
-    {
-        Style::BLANK
-    }
-
-    /// No line at all.
-    ///
-    /// ```text
-    ///  a  b
-    ///  1  234
-    /// ```
-    ///
-    /// Ported from `tabled::settings::Style::empty`.
-    pub fn empty() -> Self
-        ensures { result ≡ style.EMPTY }
-    {
-        Style::EMPTY
     }
 }
 

@@ -3,9 +3,8 @@
 ghost use Rattle.std.specs.Prelude.{◌≡◌, ◌-◌, IsTrue};
 ghost use Rattle.tabled_draw.specs.Alignments.{cell};
 ghost use Rattle.tabled_draw.specs.Pens.{Draws};
-ghost use Rattle.tabled_draw.specs.Lines.{ArePlain, IsLine, after_line, first_line};
 ghost use Rattle.tabled_draw.specs.Sizes.{asks};
-ghost use Rattle.tabled_draw.specs.Texts.{text_width, shown_character, shown_line};
+ghost use Rattle.tabled_draw.specs.Texts.{ArePlain, IsLine, after_line, first_line, shown_character, shown_line, text_width};
 ghost use Rattle.tabled_grid.specs.declared.records.axis.Axis.TheVariants.{Rows, Columns};
 
 use crate::alignment::{Alignment, indent};

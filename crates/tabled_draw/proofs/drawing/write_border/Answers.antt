@@ -1,7 +1,7 @@
-use Rattle.tabled_draw.proofs.Common.{[], ◌∙◌, ◌≡◌, ap, bytes_in, cond-true, get_or, is_drawn, length, sym, true}
+use Rattle.tabled_draw.proofs.Common.{[], ap, bytes_in, cond-true, get_or, is_drawn, length, sym, true, ◌∙◌, ◌≡◌}
 use Rattle.tabled_draw.proofs.Pens.{draws-as}
 use Rattle.tabled_draw.proofs.Unmerged.{left-unmerged, unmerged-is}
-use Rattle.tabled_draw.specs.Lines.{unmerged_line}
+use Rattle.tabled_draw.specs.Unmerged.{unmerged_line}
 use Rattle.tabled_draw.proofs.drawing.write_border.Goals as goal
 
 pub returns-then-is_unmerged-clause-draws : goal.returns-then-is_unmerged-clause-draws
@@ -9,7 +9,7 @@ returns-then-is_unmerged-clause-draws g c =
     let drawn : is_drawn c.args.sheet.now.look.style.rows c.args.sheet.now.rows c.args.i ≡ true = sym c.is_drawn.ensures ∙ c.if-not-is_drawn.false in
     draws-as
     (ap (λ n. unmerged_line c.args.sheet.now.look.style c.args.sheet.now.rows n c.args.i c.args.sheet.now.edges.now) c.requires.columns
-    ∙ unmerged-is c.args.sheet.now.rows (length c.args.rests.now.items) c.args.i c.args.above.now c.args.below.now (c.requires.unmerged c.if-is_unmerged.true) c.args.sheet.now.look.style c.args.sheet.now.look.alignments.now c.args.sheet.now.edges.now (bytes_in c.args.rests.now.items)
+    ∙ unmerged-is c.args.sheet.now.rows (length c.args.rests.now.items) c.args.i c.args.above.now c.args.below.now (c.requires.unmerged c.if-is_unmerged.true) c.args.sheet.now (bytes_in c.args.rests.now.items)
     ∙ sym (cond-true _ _ _ drawn))
     c.write_known_line.ensures.draws
 

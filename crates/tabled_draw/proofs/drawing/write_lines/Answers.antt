@@ -1,4 +1,4 @@
-use Rattle.tabled_draw.proofs.Common.{◌+◌, ◌∙◌, ◌≡◌, AreUnmerged, Draws, IsOwnerRow, ap, ap₂, arith, border_line, border_of_rests, bytes_in, length, map_grid, rectangles, refl, subst, sym, top, with_newlines}
+use Rattle.tabled_draw.proofs.Common.{AreUnmerged, Draws, IsOwnerRow, ap, arith, border_line, bytes_in, drawn_border, length, map_grid, plan_on, rectangles, refl, subst, sym, top, with_newlines, ◌+◌, ◌∙◌, ◌≡◌}
 use Rattle.tabled_draw.proofs.Owned.{count-none, owner-below, owner-top, row-outside}
 use Rattle.tabled_draw.proofs.Rows.{all-rows, border-text, end-inside, left-outside, more-rows, rest-of}
 use Rattle.tabled_draw.proofs.Pens.{draws-as, draws-failed, draws-none, draws-then}
@@ -16,7 +16,7 @@ loop-i-init g c =
         here = c.requires.room.here;
         next = c.requires.next ∙ sym (count-none (rectangles m));
         long = c.requires.room.long;
-        left = left-outside style t m c.requires.sheet.fits (top style t (rectangles m) 0) (bytes_in c.args.band.now.rests.items);
+        left = left-outside style t m c.requires.sheet.fits (top (plan_on c.args.sheet.now t m) 0) (bytes_in c.args.band.now.rests.items);
       };
       drawn = draws-none;
     }
@@ -26,7 +26,7 @@ loop-i-preserved g c =
     let t = map_grid g.R.Cell.CellText.text_of (g.R.GridStore.grid c.args.records.now) in
     record {
       band = c.write_row.ensures.band;
-      drawn = draws-as (more-rows c.args.sheet.now.look.style c.args.sheet.now.look.alignments.now t (rectangles c.args.spans.now) c.loop-i.i) (draws-then c.loop-i.invariant.drawn c.write_row.ensures.draws);
+      drawn = draws-as (more-rows (plan_on c.args.sheet.now t c.args.spans.now) c.args.sheet.now.look.alignments.now c.loop-i.i) (draws-then c.loop-i.invariant.drawn c.write_row.ensures.draws);
     }
 
 pub returns-then-has_failed : goal.returns-then-has_failed
@@ -35,8 +35,9 @@ returns-then-has_failed g c =
     let es = rectangles c.args.spans.now in
     let style = c.args.sheet.now.look.style in
     let aligns = c.args.sheet.now.look.alignments.now in
-    let rest = rest-of style aligns t es (c.loop-i.i + 1) (omega (arith, c.loop-i-test.true, c.loop-i.auto.i-end, c.requires.sheet.rows)) c.requires.high c.requires.wide in
-    draws-as rest.1 (draws-then (draws-as (more-rows style aligns t es c.loop-i.i) (draws-then c.loop-i.invariant.drawn c.write_row.ensures.draws)) (draws-failed (sym c.has_failed.ensures ∙ c.if-has_failed.true) rest.0))
+    let plan = plan_on c.args.sheet.now t c.args.spans.now in
+    let rest = rest-of plan aligns (c.loop-i.i + 1) (omega (arith, c.loop-i-test.true, c.loop-i.auto.i-end, c.requires.sheet.rows)) c.requires.high c.requires.wide in
+    draws-as rest.1 (draws-then (draws-as (more-rows plan aligns c.loop-i.i) (draws-then c.loop-i.invariant.drawn c.write_row.ensures.draws)) (draws-failed (sym c.has_failed.ensures ∙ c.if-has_failed.true) rest.0))
 
 pub write_border-requires-clause-inside : goal.write_border-requires-clause-inside
 write_border-requires-clause-inside g c = rw (c.loop-i.invariant.band.long, c.deref.ensures.value) (end-inside c.args.spans.now _ _ c.loop-i.i c.loop-i.band.above.items c.requires.sheet.fits c.loop-i.invariant.band.above)
@@ -47,8 +48,8 @@ write_border-requires-clause-unmerged g c =
     let m = c.args.spans.now in
     let i : c.loop-i.i ≡ t.rows = omega (arith, c.loop-i-test.false, c.loop-i.auto.i-end, c.requires.sheet.rows) in
     let last : c.args.sheet.now.rows ≡ c.loop-i.i = c.requires.sheet.rows ∙ sym i in
-    let over : IsOwnerRow t.rows t.columns m c.loop-i.i c.deref.result.now = rw c.deref.ensures.value c.loop-i.invariant.band.above in
-    let under : IsOwnerRow t.rows t.columns m (c.loop-i.i + 1) c.deref-2.result.now = rw c.deref-2.ensures.value (row-outside t.rows t.columns m (c.loop-i.i + 1) c.clear-2.new.row.items (λ j. owner-below t.rows t.columns (rectangles m) (c.loop-i.i + 1) j (omega (arith, i))) (c.clear-2.ensures.long ∙ c.loop-i.invariant.band.here) c.clear-2.ensures.none) in
+    let over : IsOwnerRow t.rows t.columns (rectangles m) c.loop-i.i c.deref.result.now = rw c.deref.ensures.value c.loop-i.invariant.band.above in
+    let under : IsOwnerRow t.rows t.columns (rectangles m) (c.loop-i.i + 1) c.deref-2.result.now = rw c.deref-2.ensures.value (row-outside t.rows t.columns m (c.loop-i.i + 1) c.clear-2.new.row.items (λ j. owner-below t.rows t.columns (rectangles m) (c.loop-i.i + 1) j (omega (arith, i))) (c.clear-2.ensures.long ∙ c.loop-i.invariant.band.here) c.clear-2.ensures.none) in
     λ empty. subst (λ k. AreUnmerged c.args.sheet.now.rows (length c.loop-i.band.rests.items) k c.deref.result.now c.deref-2.result.now) (sym last)
     (unmerged-rows t m c.loop-i.i c.args.sheet.now.rows (length c.loop-i.band.rests.items) c.deref.result.now c.deref-2.result.now c.requires.sheet.rows c.loop-i.invariant.band.long c.requires.sheet.fits c.requires.high c.requires.wide
     (none-left _ _ _ c.anchors.ensures.anchors c.is_empty-is_unmerged.ensures empty) (omega (arith, i)) over under)
@@ -58,14 +59,15 @@ returns g c =
     let t = map_grid g.R.Cell.CellText.text_of (g.R.GridStore.grid c.args.records.now) in
     let m = c.args.spans.now in
     let i : c.loop-i.i ≡ t.rows = omega (arith, c.loop-i-test.false, c.loop-i.auto.i-end, c.requires.sheet.rows) in
-    let over : IsOwnerRow t.rows t.columns m c.loop-i.i c.deref.result.now = rw c.deref.ensures.value c.loop-i.invariant.band.above in
-    let under : IsOwnerRow t.rows t.columns m (c.loop-i.i + 1) c.deref-2.result.now = rw c.deref-2.ensures.value (row-outside t.rows t.columns m (c.loop-i.i + 1) c.clear-2.new.row.items (λ j. owner-below t.rows t.columns (rectangles m) (c.loop-i.i + 1) j (omega (arith, i))) (c.clear-2.ensures.long ∙ c.loop-i.invariant.band.here) c.clear-2.ensures.none) in
+    let over : IsOwnerRow t.rows t.columns (rectangles m) c.loop-i.i c.deref.result.now = rw c.deref.ensures.value c.loop-i.invariant.band.above in
+    let under : IsOwnerRow t.rows t.columns (rectangles m) (c.loop-i.i + 1) c.deref-2.result.now = rw c.deref-2.ensures.value (row-outside t.rows t.columns m (c.loop-i.i + 1) c.clear-2.new.row.items (λ j. owner-below t.rows t.columns (rectangles m) (c.loop-i.i + 1) j (omega (arith, i))) (c.clear-2.ensures.long ∙ c.loop-i.invariant.band.here) c.clear-2.ensures.none) in
     let style = c.args.sheet.now.look.style in
     let aligns = c.args.sheet.now.look.alignments.now in
+    let plan = plan_on c.args.sheet.now t c.args.spans.now in
     let last : c.args.sheet.now.rows ≡ c.loop-i.i = c.requires.sheet.rows ∙ sym i in
-    let drawn : Draws g.W.Write.contents c.loop-i.pen c.write_border.new.pen (border_of_rests style aligns t.rows c.loop-i.i c.args.sheet.now.edges.now c.deref.result.now c.deref-2.result.now c.loop-i.band.rests.items) =
-    draws-as (ap₂ (λ n k. border_of_rests style aligns n k c.args.sheet.now.edges.now c.deref.result.now c.deref-2.result.now c.loop-i.band.rests.items) c.requires.sheet.rows last) c.write_border.ensures.draws in
-    draws-as (all-rows style aligns t (rectangles m) c.loop-i.i i c.requires.high c.requires.wide) (draws-then c.loop-i.invariant.drawn
-    (draws-as (border-text style aligns t m c.requires.sheet.fits c.args.sheet.now.edges.now c.requires.sheet.edges c.loop-i.i (top style t (rectangles m) c.loop-i.i) t.rows c.deref.result.now c.deref-2.result.now c.loop-i.band.rests.items refl refl over under c.loop-i.invariant.band.left c.loop-i.invariant.band.long
-    ∙ ap (λ k. with_newlines (border_line style aligns t (rectangles m) k)) i)
+    let drawn : Draws g.W.Write.contents c.loop-i.pen c.write_border.new.pen (drawn_border c.args.sheet.now c.loop-i.i c.deref.result.now c.deref-2.result.now (length c.loop-i.band.rests.items) (bytes_in c.loop-i.band.rests.items)) =
+    draws-as (ap (λ k. drawn_border c.args.sheet.now k c.deref.result.now c.deref-2.result.now (length c.loop-i.band.rests.items) (bytes_in c.loop-i.band.rests.items)) last) c.write_border.ensures.draws in
+    draws-as (all-rows plan aligns c.loop-i.i i c.requires.high c.requires.wide) (draws-then c.loop-i.invariant.drawn
+    (draws-as (border-text c.args.sheet.now t m c.requires.sheet.fits c.requires.sheet.edges c.loop-i.i (top plan c.loop-i.i) c.deref.result.now c.deref-2.result.now c.loop-i.band.rests.items c.requires.sheet.rows refl over under c.loop-i.invariant.band.left c.loop-i.invariant.band.long
+    ∙ ap (λ k. with_newlines (border_line plan aligns k)) i)
     drawn))

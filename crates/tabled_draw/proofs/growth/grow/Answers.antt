@@ -1,4 +1,4 @@
-use Rattle.tabled_draw.proofs.Common.{◌%◌, ◌+◌, ◌-◌, ◌/◌, ◌∙◌, ◌≡◌, ap, arith, cond, get_or, get_or_default, is_in_range, length, length-set, line_size, refl, room, subst, ℕ}
+use Rattle.tabled_draw.proofs.Common.{ap, arith, cond, get_or, get_or_default, is_in_range, length, length-set, line_size, refl, room, subst, ℕ, ◌%◌, ◌+◌, ◌-◌, ◌/◌, ◌∙◌, ◌≡◌}
 use Rattle.tabled_draw.proofs.Shares.{spread-all, spread-more, spread-none}
 use Rattle.tabled_draw.proofs.growth.grow.Goals as goal
 

@@ -1,4 +1,4 @@
-use Rattle.tabled_draw.proofs.Common.{◌+◌, ◌≡◌, cond, get_or, is_in_range, length, ◌-◌, ℕ}
+use Rattle.tabled_draw.proofs.Common.{cond, get_or, is_in_range, length, ℕ, ◌+◌, ◌-◌, ◌≡◌}
 use Rattle.tabled_draw.proofs.growth.grow.Given as goal
 
 abbrev pub invariant-loop-k : goal.invariant-loop-k

@@ -1,4 +1,4 @@
-use Rattle.tabled_draw.proofs.Common.{◌∙◌, ◌≡◌, ap, ap₂, arith, border, fold, get_or, get_or_default, grown_for, grown_sizes, length, line_of, line_size, lines_in, map_grid, rectangle, sized, sym, take_all}
+use Rattle.tabled_draw.proofs.Common.{ap, ap₂, arith, border, fold, get_or, get_or_default, grown_for, grown_sizes, length, line_of, line_size, lines_in, map_grid, rectangle, sized, sym, take_all, ◌∙◌, ◌≡◌}
 use Rattle.tabled_draw.proofs.Shares.{length-grown}
 use Rattle.tabled_draw.proofs.Sizes.{both-asked, lies-along, count-map, grown-more, order-is, ordered-at}
 use Rattle.tabled_draw.proofs.growth.grow_all.Goals as goal

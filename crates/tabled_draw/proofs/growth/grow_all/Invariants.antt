@@ -1,4 +1,4 @@
-use Rattle.tabled_draw.proofs.Common.{◌≡◌, count_along, fold, grown_for, length, map_grid, take}
+use Rattle.tabled_draw.proofs.Common.{count_along, fold, grown_for, length, map_grid, take, ◌≡◌}
 use Rattle.tabled_draw.proofs.growth.grow_all.Given as goal
 
 abbrev pub invariant-loop-k : goal.invariant-loop-k

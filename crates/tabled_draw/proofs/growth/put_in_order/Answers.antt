@@ -1,4 +1,4 @@
-use Rattle.tabled_draw.proofs.Common.{Rectangle, ◌<◌, ◌∙◌, ◌≡◌, ap, by_number, line_of, lines_in, place, sized, subst, refl, ℕ, List, Rows, Columns, Member, rectangle}
+use Rattle.tabled_draw.proofs.Common.{Columns, List, Member, Rectangle, Rows, ap, by_number, line_of, lines_in, place, rectangle, refl, sized, subst, ℕ, ◌<◌, ◌∙◌, ◌≡◌}
 use Rattle.std.proofs.Common.{rules}
 use Rattle.std.proofs.lemmas.Fn.{always_returns_same}
 use Rattle.std.proofs.lemmas.List.Sorted.{IsNonDecreasingBy-from_sort_by_key}

@@ -3,4 +3,4 @@ use Rattle.tabled_draw.proofs.StyleLaws.{arms-at-corners}
 use Rattle.tabled_draw.proofs.laws.corners_of_boxes_have_their_arms.Goals as goal
 
 pub returns : goal.returns
-returns c = holds _ (λ style aligns g es well characters box fine some. arms-at-corners style aligns g es well characters box fine some)
+returns c = holds _ (arms-at-corners)

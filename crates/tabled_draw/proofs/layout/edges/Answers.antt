@@ -1,4 +1,4 @@
-use Rattle.tabled_draw.proofs.Common.{[], ◌++◌, ◌+◌, ◌∙◌, ◌∷◌, ◌≡◌, Columns, ap, arith, get_or, length, length-append, line_size, start_of}
+use Rattle.tabled_draw.proofs.Common.{Columns, [], ap, arith, get_or, length, length-append, line_size, start_of, ◌++◌, ◌+◌, ◌∙◌, ◌∷◌, ◌≡◌}
 use Rattle.tabled_draw.proofs.Each.{pushed}
 use Rattle.tabled_draw.proofs.Shares.{start-more}
 use Rattle.tabled_draw.proofs.layout.edges.Goals as goal

@@ -1,4 +1,4 @@
-use Rattle.tabled_draw.proofs.Common.{◌∙◌, ◌≡◌, Columns, Rows, heights, map_grid, rectangles, widths}
+use Rattle.tabled_draw.proofs.Common.{Columns, Rows, heights, map_grid, plan_of, rectangles, widths, ◌∙◌, ◌≡◌}
 use Rattle.tabled_draw.proofs.Sizes.{edges-of, none-asked, own-long, sizes-is}
 use Rattle.tabled_draw.proofs.layout.layout_of.Goals as goal
 
@@ -18,8 +18,8 @@ pub returns : goal.returns
 returns g c =
     let t = map_grid g.R.Cell.CellText.text_of (g.R.GridStore.grid c.args.records.now) in
     let m = c.args.spans.now in
-    let wide : c.grow_all.new.sizes.items ≡ widths c.args.style.now t (rectangles m) = sizes-is Columns c.args.style.now t m c.raise_all.new.widths.items c.grow_all.new.sizes.items c.raise_all.ensures.widths c.in_ok-grow_all.ensures.grown in
-    let high : c.grow_all-2.new.sizes.items ≡ heights c.args.style.now t (rectangles m) = sizes-is Rows c.args.style.now t m c.raise_all.new.heights.items c.grow_all-2.new.sizes.items c.raise_all.ensures.heights c.in_ok-grow_all-2.ensures.grown in
+    let wide : c.grow_all.new.sizes.items ≡ widths (plan_of c.args.style.now t (rectangles m)) = sizes-is Columns c.args.style.now t m c.raise_all.new.widths.items c.grow_all.new.sizes.items c.raise_all.ensures.widths c.in_ok-grow_all.ensures.grown in
+    let high : c.grow_all-2.new.sizes.items ≡ heights (plan_of c.args.style.now t (rectangles m)) = sizes-is Rows c.args.style.now t m c.raise_all.new.heights.items c.grow_all-2.new.sizes.items c.raise_all.ensures.heights c.in_ok-grow_all-2.ensures.grown in
     record {
       widths = wide;
       edges = edges-of c.args.style.now t m c.deref.result.now c.in_ok-edges.edges.items (c.deref.ensures.value ∙ wide) c.in_ok-edges.ensures.long c.in_ok-edges.ensures.each;

@@ -1,7 +1,7 @@
 use Rattle.std.proofs.Common.{rules}
-use Rattle.tabled_draw.proofs.Common.{◌∙◌, ◌≡◌, ap, arith, encode_utf8_all, sym}
+use Rattle.tabled_draw.proofs.Common.{ap, arith, encode_utf8_all, sym, ◌∙◌, ◌≡◌}
 use Rattle.tabled_draw.proofs.Unmerged.{between-is}
-use Rattle.tabled_draw.specs.Lines.{unmerged_line}
+use Rattle.tabled_draw.specs.Unmerged.{unmerged_line}
 use Rattle.tabled_draw.proofs.lines.line_between.Goals as goal
 
 pub returns : goal.returns

@@ -1,4 +1,4 @@
-use Rattle.tabled_draw.proofs.Common.{[], ◌+◌, ◌<◌, ◌∙◌, ◌≡◌, None, ap, ap₂, arith, bytes_in, column_if, each, edge, false, get_or, is_drawn, left_if, length, stretches, sym}
+use Rattle.tabled_draw.proofs.Common.{None, [], ap, ap₂, arith, bytes_in, column, each, edge, false, get_or, is_drawn, left_if, length, stretch, sym, ◌+◌, ◌<◌, ◌∙◌, ◌≡◌, size_if}
 use Rattle.tabled_draw.proofs.Each.{changed-at, each-more}
 use Rattle.tabled_draw.proofs.Pens.{draws-as, draws-then}
 use Rattle.tabled_draw.specs.Lines.{drawn_line}
@@ -22,10 +22,10 @@ loop-j-preserved g c =
       rests = changed-at _ old c.loop-j.rests.items c.write_column.new.rests.items j c.differ-right.result a c.loop-j.invariant.rests c.write_column.ensures.rests (ap₂ (λ apart t. left_if j apart a t) c.differ-right.ensures text);
       is_drawn = λ more. c.is_drawn_after-drawn.ensures c.len-columns.result more;
       left = c.differ-right.ensures;
-      drawn = draws-as (sym (each-more (stretches c.args.sheet.now.look.style c.args.sheet.now.look.alignments.now c.len-columns.result false c.args.sheet.now.edges.now c.args.above.now c.args.below.now old) j))
+      drawn = draws-as (sym (each-more (stretch c.args.sheet.now false c.args.above.now c.args.below.now c.len-columns.result old) j))
           (draws-then c.loop-j.invariant.drawn (draws-then
-          (draws-as (ap (λ d. edge c.args.sheet.now.look.style false d (get_or c.args.above.now j None) a (get_or c.args.below.now j None) b) drawn) c.write_corner.ensures)
-          (draws-as (ap₂ (λ d t. column_if c.args.sheet.now.look.style c.args.sheet.now.look.alignments.now d c.differ-right.result c.args.sheet.now.edges.now j a t) drawn text ∙ ap (λ apart. column_if c.args.sheet.now.look.style c.args.sheet.now.look.alignments.now (is_drawn c.args.sheet.now.look.style.columns c.len-columns.result j) apart c.args.sheet.now.edges.now j a (get_or old j [])) c.differ-right.ensures) c.write_column.ensures.draws)));
+          (draws-as (ap (λ d. edge c.args.sheet.now.look.style false (size_if d) (get_or c.args.above.now j None) a (get_or c.args.below.now j None) b) drawn) c.write_corner.ensures)
+          (draws-as (ap₂ (λ d t. column c.args.sheet.now d c.differ-right.result j a t) drawn text ∙ ap (λ apart. column c.args.sheet.now (is_drawn c.args.sheet.now.look.style.columns c.len-columns.result j) apart j a (get_or old j [])) c.differ-right.ensures) c.write_column.ensures.draws)));
     }
 
 pub returns-clause-draws : goal.returns-clause-draws
@@ -34,7 +34,7 @@ returns-clause-draws g c =
     let old = bytes_in c.args.rests.now.items in
     let columns : c.len-columns.result ≡ length c.args.rests.now.items = omega (arith, c.len-columns.ensures) in
     let end : c.loop-j.j ≡ length c.args.rests.now.items = omega (arith, c.loop-j-test.false, c.loop-j.auto.j-end, c.len-columns.ensures) in
-    draws-as (ap (λ n. drawn_line c.args.sheet.now.look.style c.args.sheet.now.look.alignments.now n false c.args.sheet.now.edges.now c.args.above.now c.args.below.now old) columns) (draws-then (draws-then
-    (draws-as (ap (λ n. each n (stretches c.args.sheet.now.look.style c.args.sheet.now.look.alignments.now c.len-columns.result false c.args.sheet.now.edges.now c.args.above.now c.args.below.now old)) (end ∙ sym columns)) c.loop-j.invariant.drawn)
-    (draws-as (ap (λ d. edge c.args.sheet.now.look.style false d (get_or c.args.above.now c.len-columns.result None) (get_or c.args.above.now (c.len-columns.result + 1) None) (get_or c.args.below.now c.len-columns.result None) (get_or c.args.below.now (c.len-columns.result + 1) None)) c.is_drawn-drawn-2.ensures) c.write_corner-2.ensures))
+    draws-as (ap (λ n. drawn_line c.args.sheet.now false c.args.above.now c.args.below.now n old) columns) (draws-then (draws-then
+    (draws-as (ap (λ n. each n (stretch c.args.sheet.now false c.args.above.now c.args.below.now c.len-columns.result old)) (end ∙ sym columns)) c.loop-j.invariant.drawn)
+    (draws-as (ap (λ d. edge c.args.sheet.now.look.style false (size_if d) (get_or c.args.above.now c.len-columns.result None) (get_or c.args.above.now (c.len-columns.result + 1) None) (get_or c.args.below.now c.len-columns.result None) (get_or c.args.below.now (c.len-columns.result + 1) None)) c.is_drawn-drawn-2.ensures) c.write_corner-2.ensures))
     c.end_line.ensures)

@@ -1,4 +1,4 @@
-use Rattle.tabled_draw.proofs.Common.{[], ◌+◌, ◌<◌, ◌≡◌, Draws, None, bytes_in, differ, each, false, get_or, is_drawn, left_of, length, stretches}
+use Rattle.tabled_draw.proofs.Common.{Draws, None, [], bytes_in, differ, each, false, get_or, is_drawn, left_of, length, stretch, ◌+◌, ◌<◌, ◌≡◌}
 use Rattle.tabled_draw.proofs.Each.{Changed}
 use Rattle.tabled_draw.proofs.lines.write_border_line.Given as goal
 
@@ -6,7 +6,7 @@ abbrev pub invariant-loop-j : goal.invariant-loop-j
 invariant-loop-j g l = record {
   long : length l.rests.items ≡ length l.initial.rests.items;
   rests : Changed (λ k. left_of k (get_or l.above (k + 1) None) (get_or l.below (k + 1) None) (get_or (bytes_in l.initial.rests.items) k [])) (bytes_in l.initial.rests.items) (bytes_in l.rests.items) l.j;
-  is_drawn : l.j < l.columns → l.drawn ≡ is_drawn l.lines l.columns l.j;
+  is_drawn : l.j < l.columns → l.drawn ≡ is_drawn l.drawn_columns l.columns l.j;
   left : l.left ≡ differ (get_or l.above l.j None) (get_or l.below l.j None);
-  drawn : Draws g.W.Write.contents l.initial.pen l.pen (each l.j (stretches l.sheet.look.style l.sheet.look.alignments.now l.columns false l.sheet.edges.now l.above l.below (bytes_in l.initial.rests.items)));
+  drawn : Draws g.W.Write.contents l.initial.pen l.pen (each l.j (stretch l.sheet false l.above l.below l.columns (bytes_in l.initial.rests.items)));
 }

@@ -1,4 +1,4 @@
-use Rattle.tabled_draw.proofs.Common.{[], ◌+◌, ◌<◌, ◌∙◌, ◌≡◌, None, ap, ap₂, arith, bytes_in, cond-false, differ, each, edge, get_or, is_drawn, left_inside, length, length-set, level, stretches, sym, text_inside, true}
+use Rattle.tabled_draw.proofs.Common.{None, [], ap, ap₂, arith, bytes_in, cond-false, differ, each, edge, get_or, is_drawn, left_inside, length, length-set, level, stretch, sym, text_inside, true, ◌+◌, ◌<◌, ◌∙◌, ◌≡◌, size_if}
 use Rattle.tabled_draw.proofs.Arms.{differ-self}
 use Rattle.tabled_draw.proofs.Each.{changed-more, each-more, text-in}
 use Rattle.tabled_draw.proofs.Pens.{draws-as, draws-then}
@@ -23,10 +23,10 @@ loop-j-preserved g c =
       long = length-set c.loop-j.rests.items j _ ∙ c.loop-j.invariant.long;
       rests = changed-more _ old c.loop-j.rests.items j c.write_inside.result c.loop-j.invariant.rests less (c.write_inside.ensures.rest ∙ ap (left_inside j a) text ∙ sym (cond-false (differ a a) (get_or old j []) (left_inside j a (get_or old j [])) (differ-self a)));
       is_drawn = λ more. c.is_drawn_after-drawn.ensures c.len-columns.result more;
-      drawn = draws-as (sym (each-more (stretches c.args.sheet.now.look.style c.args.sheet.now.look.alignments.now c.len-columns.result true c.args.sheet.now.edges.now c.args.owners.now c.args.owners.now old) j))
+      drawn = draws-as (sym (each-more (stretch c.args.sheet.now true c.args.owners.now c.args.owners.now c.len-columns.result old) j))
           (draws-then c.loop-j.invariant.drawn (draws-then
-          (draws-as (ap (λ d. edge c.args.sheet.now.look.style true d (get_or c.args.owners.now j None) a (get_or c.args.owners.now j None) b) drawn) c.write_upright.ensures)
-          (draws-as (ap₂ (λ d t. text_inside c.args.sheet.now.look.alignments.now d c.args.sheet.now.edges.now j a t) drawn text ∙ sym (cond-false (differ a a) (level c.args.sheet.now.look.style (is_drawn c.args.sheet.now.look.style.columns c.len-columns.result j) c.args.sheet.now.edges.now j) (text_inside c.args.sheet.now.look.alignments.now (is_drawn c.args.sheet.now.look.style.columns c.len-columns.result j) c.args.sheet.now.edges.now j a (get_or old j [])) (differ-self a))) c.write_inside.ensures.draws)));
+          (draws-as (ap (λ d. edge c.args.sheet.now.look.style true (size_if d) (get_or c.args.owners.now j None) a (get_or c.args.owners.now j None) b) drawn) c.write_upright.ensures)
+          (draws-as (ap₂ (λ d t. text_inside c.args.sheet.now d j a t) drawn text ∙ sym (cond-false (differ a a) (level c.args.sheet.now.look.style (is_drawn c.args.sheet.now.look.style.columns c.len-columns.result j) c.args.sheet.now.edges.now j) (text_inside c.args.sheet.now (is_drawn c.args.sheet.now.look.style.columns c.len-columns.result j) j a (get_or old j [])) (differ-self a))) c.write_inside.ensures.draws)));
     }
 
 pub returns-clause-draws : goal.returns-clause-draws
@@ -35,7 +35,7 @@ returns-clause-draws g c =
     let old = bytes_in c.args.rests.now.items in
     let columns : c.len-columns.result ≡ length c.args.rests.now.items = omega (arith, c.len-columns.ensures) in
     let end : c.loop-j.j ≡ length c.args.rests.now.items = omega (arith, c.loop-j-test.false, c.loop-j.auto.j-end, c.len-columns.ensures) in
-    draws-as (ap (λ n. drawn_line c.args.sheet.now.look.style c.args.sheet.now.look.alignments.now n true c.args.sheet.now.edges.now c.args.owners.now c.args.owners.now old) columns) (draws-then (draws-then
-    (draws-as (ap (λ n. each n (stretches c.args.sheet.now.look.style c.args.sheet.now.look.alignments.now c.len-columns.result true c.args.sheet.now.edges.now c.args.owners.now c.args.owners.now old)) (end ∙ sym columns)) c.loop-j.invariant.drawn)
-    (draws-as (ap (λ d. edge c.args.sheet.now.look.style true d (get_or c.args.owners.now c.len-columns.result None) (get_or c.args.owners.now (c.len-columns.result + 1) None) (get_or c.args.owners.now c.len-columns.result None) (get_or c.args.owners.now (c.len-columns.result + 1) None)) c.is_drawn-drawn-2.ensures) c.write_upright-2.ensures))
+    draws-as (ap (λ n. drawn_line c.args.sheet.now true c.args.owners.now c.args.owners.now n old) columns) (draws-then (draws-then
+    (draws-as (ap (λ n. each n (stretch c.args.sheet.now true c.args.owners.now c.args.owners.now c.len-columns.result old)) (end ∙ sym columns)) c.loop-j.invariant.drawn)
+    (draws-as (ap (λ d. edge c.args.sheet.now.look.style true (size_if d) (get_or c.args.owners.now c.len-columns.result None) (get_or c.args.owners.now (c.len-columns.result + 1) None) (get_or c.args.owners.now c.len-columns.result None) (get_or c.args.owners.now (c.len-columns.result + 1) None)) c.is_drawn-drawn-2.ensures) c.write_upright-2.ensures))
     c.end_line.ensures)

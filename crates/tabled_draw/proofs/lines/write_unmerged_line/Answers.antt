@@ -1,9 +1,9 @@
-use Rattle.tabled_draw.proofs.Common.{◌+◌, ◌∙◌, ◌≡◌, ap, ap₂, arith, corner_if, each, is_drawn, level, lt-ltb, marked, nat_lt, refl, sym, unmerged_arms, unmerged_stretch, false}
+use Rattle.tabled_draw.proofs.Common.{ap, ap₂, arith, corner_if, each, false, is_drawn, level, lt-ltb, marked, nat_lt, refl, sym, unmerged_arms, unmerged_stretch, ◌+◌, ◌∙◌, ◌≡◌}
 use Rattle.std.proofs.Common.{le-ltb}
 use Rattle.tabled_draw.proofs.Arms.{same-arms}
 use Rattle.tabled_draw.proofs.Each.{each-more}
 use Rattle.tabled_draw.proofs.Pens.{draws-as, draws-none, draws-then}
-use Rattle.tabled_draw.specs.Lines.{unmerged_line}
+use Rattle.tabled_draw.specs.Unmerged.{unmerged_line}
 use Rattle.tabled_draw.proofs.lines.write_unmerged_line.Goals as goal
 
 pub loop-j-init : goal.loop-j-init

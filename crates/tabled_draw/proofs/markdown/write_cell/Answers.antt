@@ -1,5 +1,5 @@
 use Rattle.std.specs.Prelude.{chars}
-use Rattle.tabled_draw.proofs.Common.{Draws, refl, ◌-◌, sym, ◌∙◌, ap}
+use Rattle.tabled_draw.proofs.Common.{Draws, ap, refl, sym, ◌-◌, ◌∙◌}
 use Rattle.tabled_draw.proofs.Pens.{draws-aligned, draws-bytes}
 use Rattle.std.proofs.lemmas.Str.{encodes-chars}
 use Rattle.tabled_draw.proofs.markdown.write_cell.Goals as goal

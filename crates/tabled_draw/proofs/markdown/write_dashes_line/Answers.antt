@@ -1,4 +1,4 @@
-use Rattle.tabled_draw.proofs.Common.{alignment_in, ap, arith, each, get_or, length, sym, ◌++◌, ◌∙◌, ◌∷◌, ◌≡◌, ℕ}
+use Rattle.tabled_draw.proofs.Common.{alignment_in, ap, arith, each, get_or, length, sym, ℕ, ◌++◌, ◌∙◌, ◌∷◌, ◌≡◌}
 use Rattle.tabled_draw.proofs.Each.{each-more}
 use Rattle.tabled_draw.proofs.MarkdownLines.{line-ended}
 use Rattle.tabled_draw.proofs.Pens.{draws-as, draws-then}

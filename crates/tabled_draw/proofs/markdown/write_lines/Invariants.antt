@@ -1,6 +1,5 @@
 use Rattle.tabled_draw.proofs.Common.{Draws, each, with_newlines}
-use Rattle.tabled_draw.specs.Markdown.{lines_at}
-use Rattle.tabled_draw.specs.MarkdownTexts.{rows_of_characters}
+use Rattle.tabled_draw.specs.Markdown.{lines_at, rows_of_characters}
 use Rattle.tabled_draw.proofs.markdown.write_lines.Given as goal
 
 abbrev pub invariant-loop-i : goal.invariant-loop-i

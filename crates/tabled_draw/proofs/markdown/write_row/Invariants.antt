@@ -1,5 +1,5 @@
-use Rattle.tabled_draw.proofs.Common.{Draws, aligned, alignment_in, each, get_or, map, [], ◌∷◌}
-use Rattle.tabled_draw.specs.MarkdownTexts.{characters}
+use Rattle.tabled_draw.proofs.Common.{Draws, [], aligned, alignment_in, each, get_or, map, ◌∷◌}
+use Rattle.tabled_draw.specs.Markdown.{characters}
 use Rattle.tabled_draw.proofs.markdown.write_row.Given as goal
 
 abbrev pub invariant-loop-j : goal.invariant-loop-j

@@ -1,7 +1,6 @@
-use Rattle.tabled_draw.specs.MarkdownTexts.{characters}
-use Rattle.tabled_draw.proofs.Common.{[], ◌∙◌, ◌∷◌, ◌≡◌, ap, arith, each, map_grid, rectangles}
+use Rattle.tabled_draw.specs.Markdown.{characters, row_apart}
+use Rattle.tabled_draw.proofs.Common.{[], ap, arith, each, map_grid, rectangles, ◌∙◌, ◌∷◌, ◌≡◌}
 use Rattle.tabled_draw.proofs.Singly.{row-more, wide-more}
-use Rattle.tabled_draw.specs.Markdown.{row_apart}
 use Rattle.tabled_draw.proofs.markdown_texts.all_texts.Goals as goal
 
 pub loop-i-preserved : goal.loop-i-preserved

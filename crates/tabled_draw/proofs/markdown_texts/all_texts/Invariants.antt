@@ -1,6 +1,5 @@
-use Rattle.tabled_draw.specs.MarkdownTexts.{characters}
-use Rattle.tabled_draw.proofs.Common.{[], ◌∷◌, ◌≡◌, SpanMap, each, map, map_grid, rectangles}
-use Rattle.tabled_draw.specs.Markdown.{row_apart}
+use Rattle.tabled_draw.specs.Markdown.{characters, row_apart}
+use Rattle.tabled_draw.proofs.Common.{SpanMap, [], each, map, map_grid, rectangles, ◌∷◌, ◌≡◌}
 use Rattle.tabled_grid.specs.Covers.{cover_of}
 use Rattle.tabled_grid.specs.Evenness.{AreWide}
 use Rattle.tabled_grid.specs.Grid.{map_items}

@@ -1,5 +1,5 @@
 use Rattle.std.proofs.lemmas.Str.{chars_from_encodes}
-use Rattle.tabled_draw.proofs.Common.{ap, encode_utf8_all, subst, sym, ◌++◌, ◌∙◌, IsUtf8}
+use Rattle.tabled_draw.proofs.Common.{IsUtf8, ap, encode_utf8_all, subst, sym, ◌++◌, ◌∙◌}
 use Rattle.tabled_draw.specs.Markdown.{escaped}
 use Rattle.tabled_draw.proofs.markdown_texts.escaped.Goals as goal
 

@@ -1,6 +1,6 @@
 use Rattle.tabled_draw.proofs.Common.{[], ap, arith, get_or, largest, length, length-map, map, subst, sym, text_width, ◌<◌, ◌∙◌, ◌≡◌}
 use Rattle.tabled_draw.proofs.MarkdownLines.{row-at, wide-at, width-more, widths-all, length-rows}
-use Rattle.tabled_draw.specs.MarkdownTexts.{characters, rows_of_characters}
+use Rattle.tabled_draw.specs.Markdown.{characters, rows_of_characters}
 use Rattle.tabled_draw.proofs.markdown_texts.markdown_widths.Goals as goal
 
 pub raise-requires : goal.raise-requires

@@ -1,5 +1,5 @@
 use Rattle.tabled_draw.proofs.Common.{[], get_or, largest, length, text_width, ℕ, ◌<◌, ◌≡◌}
-use Rattle.tabled_draw.specs.MarkdownTexts.{rows_of_characters}
+use Rattle.tabled_draw.specs.Markdown.{rows_of_characters}
 use Rattle.tabled_draw.proofs.markdown_texts.markdown_widths.Given as goal
 
 abbrev pub invariant-loop-row : goal.invariant-loop-row

@@ -1,7 +1,7 @@
 use Rattle.std.specs.Prelude.{chars}
 use Rattle.std.specs.String.{string_bytes}
 use Rattle.tabled_draw.specs.Markdown.{escaped_behind}
-use Rattle.tabled_draw.proofs.Common.{ap, encode_utf8_all, ◌∷◌, IsUtf8-past_char, chars_rest, nil_from_length, subst, IsUtf8, encode_utf8, ◌++◌, ◌≡◌, ◌∙◌, sym}
+use Rattle.tabled_draw.proofs.Common.{IsUtf8, IsUtf8-past_char, ap, chars_rest, encode_utf8, encode_utf8_all, nil_from_length, subst, sym, ◌++◌, ◌∙◌, ◌∷◌, ◌≡◌}
 use Rattle.tabled_draw.proofs.Escapes.{text-first, text-last, text-more, text-none}
 use Rattle.tabled_draw.proofs.markdown_texts.push_text.Goals as goal
 

@@ -1,5 +1,5 @@
 use Rattle.tabled_draw.proofs.Common.{[], get_or, length, map, max, text_width, ℕ, ◌<◌, ◌≡◌, ◌≤◌}
-use Rattle.tabled_draw.specs.MarkdownTexts.{characters}
+use Rattle.tabled_draw.specs.Markdown.{characters}
 use Rattle.tabled_draw.proofs.markdown_texts.raise.Given as goal
 
 abbrev pub invariant-loop-j : goal.invariant-loop-j

@@ -1,6 +1,5 @@
-use Rattle.tabled_draw.specs.MarkdownTexts.{characters}
-use Rattle.tabled_draw.proofs.Common.{[], ◌∷◌, ◌≡◌, SpanMap, each, length, map, map_grid, place, rectangles}
-use Rattle.tabled_draw.specs.Markdown.{cell_apart}
+use Rattle.tabled_draw.specs.Markdown.{cell_apart, characters}
+use Rattle.tabled_draw.proofs.Common.{SpanMap, [], each, length, map, map_grid, place, rectangles, ◌∷◌, ◌≡◌}
 use Rattle.tabled_grid.specs.Covers.{cover_of}
 use Rattle.tabled_draw.proofs.markdown_texts.row_texts.Given as goal
 

@@ -1,5 +1,5 @@
 use Rattle.std.proofs.lemmas.Result.{IfOk-weaker}
-use Rattle.tabled_draw.proofs.Common.{◌∙◌, ap₂, map_grid}
+use Rattle.tabled_draw.proofs.Common.{ap₂, map_grid, ◌∙◌}
 use Rattle.tabled_draw.proofs.Singly.{kept-apart}
 use Rattle.tabled_grid.specs.Covers.{cover_of}
 use Rattle.tabled_draw.proofs.markdown_texts.texts_apart.Goals as goal

@@ -1,4 +1,4 @@
-use Rattle.tabled_draw.proofs.Common.{◌+◌, ◌<◌, ◌≡◌, None, begins_at, get_or, place, true, ℕ}
+use Rattle.tabled_draw.proofs.Common.{None, begins_at, get_or, place, true, ℕ, ◌+◌, ◌<◌, ◌≡◌}
 use Rattle.tabled_draw.proofs.owners.begin_here.Given as goal
 
 abbrev pub invariant-loop-j : goal.invariant-loop-j

@@ -1,4 +1,4 @@
-use Rattle.tabled_draw.proofs.Common.{◌++◌, ◌∙◌, ap₂, arith}
+use Rattle.tabled_draw.proofs.Common.{ap₂, arith, ◌++◌, ◌∙◌}
 use Rattle.tabled_draw.proofs.Runs.{run-whole}
 use Rattle.tabled_draw.proofs.Pens.{encodes-more}
 use Rattle.tabled_draw.proofs.pen.run_of.Goals as goal

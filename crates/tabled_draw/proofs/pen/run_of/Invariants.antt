@@ -1,4 +1,4 @@
-use Rattle.tabled_draw.proofs.Common.{◌≡◌, encode_utf8_all, replicate}
+use Rattle.tabled_draw.proofs.Common.{encode_utf8_all, replicate, ◌≡◌}
 use Rattle.tabled_draw.proofs.pen.run_of.Given as goal
 
 abbrev pub invariant-loop : goal.invariant-loop

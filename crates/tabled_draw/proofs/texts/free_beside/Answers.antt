@@ -1,4 +1,4 @@
-use Rattle.tabled_draw.proofs.Common.{◌-◌, ◌∙◌, ap, sym, text_width}
+use Rattle.tabled_draw.proofs.Common.{ap, sym, text_width, ◌-◌, ◌∙◌}
 use Rattle.tabled_draw.proofs.Shown.{plain-line}
 use Rattle.tabled_draw.proofs.Widths.{plain-columns}
 use Rattle.tabled_draw.proofs.texts.free_beside.Goals as goal

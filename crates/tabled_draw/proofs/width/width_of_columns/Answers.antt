@@ -1,4 +1,4 @@
-use Rattle.tabled_draw.proofs.Common.{◌+◌, ◌≡◌, Columns, arith, get_or, length, line_size, start_of}
+use Rattle.tabled_draw.proofs.Common.{Columns, arith, get_or, length, line_size, start_of, ◌+◌, ◌≡◌}
 use Rattle.tabled_draw.proofs.Shares.{start-more}
 use Rattle.tabled_draw.proofs.width.width_of_columns.Goals as goal
 

@@ -1,4 +1,4 @@
-use Rattle.tabled_draw.proofs.Common.{◌+◌, ◌≡◌, Columns, length, line_size, start_of}
+use Rattle.tabled_draw.proofs.Common.{Columns, length, line_size, start_of, ◌+◌, ◌≡◌}
 use Rattle.tabled_draw.proofs.width.width_of_columns.Given as goal
 
 abbrev pub invariant-loop-k : goal.invariant-loop-k

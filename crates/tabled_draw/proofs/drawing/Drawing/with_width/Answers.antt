@@ -1,5 +1,5 @@
 use Rattle.std.proofs.lemmas.List.{get_or_read}
-use Rattle.tabled_draw.proofs.Common.{◌+◌, ◌<◌, ◌∙◌, ◌≡◌, IsBetween, Rows, ap, arith, left, length, length-replicate, map_grid, rectangles, subst}
+use Rattle.tabled_draw.proofs.Common.{IsBetween, Rows, ap, arith, left, length, length-replicate, map_grid, plan_of, rectangles, subst, ◌+◌, ◌<◌, ◌∙◌, ◌≡◌}
 use Rattle.tabled_draw.proofs.Fitting.{bytes-drawn, fits-of}
 use Rattle.tabled_draw.proofs.PictureWidths.{width-of}
 use Rattle.tabled_draw.proofs.Sizes.{length-sizes}
@@ -34,7 +34,7 @@ returns g c =
     let columns = c.count_columns-columns.ensures.columns in
     let laid = c.in_ok-layout.ensures.edges in
     let within : c.count_columns-columns.result < t.columns + 1 = omega (arith, columns) in
-    let edge : c.index-before.result.now ≡ left c.args.look.now.style t es c.count_columns-columns.result = get_or_read c.in_ok-layout.layout.edges.items _ _ (omega (arith, laid.long, within)) c.index-before.ensures 0 ∙ laid.each c.count_columns-columns.result within in
+    let edge : c.index-before.result.now ≡ left (plan_of c.args.look.now.style t es) c.count_columns-columns.result = get_or_read c.in_ok-layout.layout.edges.items _ _ (omega (arith, laid.long, within)) c.index-before.ensures 0 ∙ laid.each c.count_columns-columns.result within in
     record {
       drawn = bytes-drawn t c.args.cfg.now c.in_ok-spans.spans _ _ rows columns c.in_ok-spans.ensures.fitting c.args.look.now.style c.args.look.now.alignments.now;
       width = width-of c.args.look.now.style t c.args.cfg.now c.in_ok-spans.spans _ _ _ _ _ rows columns c.in_ok-spans.ensures.fitting edge c.line_size-last.ensures c.in_ok-width.ensures;

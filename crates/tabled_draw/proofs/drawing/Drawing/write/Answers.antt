@@ -2,7 +2,7 @@ use Rattle.std.proofs.Common.{rules}
 use Rattle.std.proofs.lemmas.Result.{on_err_weaker, on_ok_weaker}
 use Rattle.std.specs.Io.KnownBytes.{Appends}
 use Rattle.std.specs.Result.{OnErr, OnOk}
-use Rattle.tabled_draw.proofs.Common.{◌∙◌, ap, subst}
+use Rattle.tabled_draw.proofs.Common.{ap, subst, ◌∙◌}
 use Rattle.tabled_draw.proofs.Pens.{cut, written}
 use Rattle.tabled_held.specs.Sent.{IsCutShort, Kept}
 use Rattle.tabled_draw.proofs.drawing.Drawing.write.Goals as goal

@@ -1,7 +1,6 @@
 use Rattle.tabled_draw.proofs.Common.{ap, ap₂, fitting, length, map_grid, rectangles, subst, sym, ◌∙◌}
 use Rattle.tabled_draw.proofs.Each.{length-singles}
-use Rattle.tabled_draw.specs.Markdown.{markdown_width, markdown_widths, lines_of, markdown, rows_apart}
-use Rattle.tabled_draw.specs.MarkdownTexts.{rows_of_characters}
+use Rattle.tabled_draw.specs.Markdown.{lines_of, markdown, markdown_width, markdown_widths, rows_apart, rows_of_characters}
 use Rattle.tabled_draw.specs.Picture.{bytes_of_lines}
 use Rattle.tabled_grid.specs.Evenness.{AreWide}
 use Rattle.tabled_grid.specs.Grid.{map_items}

@@ -1,11 +1,10 @@
 use Rattle.std.proofs.Common.{rules}
 use Rattle.std.proofs.lemmas.Result.{on_err_weaker}
 use Rattle.std.specs.Result.{OnErr}
-use Rattle.tabled_draw.proofs.Common.{ap, ap₂, eq-eqb, false≢true, length, subst, sym, with_newlines, ◌∙◌}
+use Rattle.tabled_draw.proofs.Common.{ap, ap₂, eq-eqb, length, subst, sym, with_newlines, ◌∙◌, false≢true}
 use Rattle.tabled_draw.proofs.MarkdownLines.{length-rows, lines-some}
 use Rattle.tabled_draw.proofs.Pens.{cut, draws-as}
-use Rattle.tabled_draw.specs.Markdown.{lines_of}
-use Rattle.tabled_draw.specs.MarkdownTexts.{rows_of_characters}
+use Rattle.tabled_draw.specs.Markdown.{lines_of, rows_of_characters}
 use Rattle.tabled_held.specs.Sent.{IsCutShort, Kept}
 use Rattle.tabled_draw.proofs.markdown.Markdown.write.Goals as goal
 

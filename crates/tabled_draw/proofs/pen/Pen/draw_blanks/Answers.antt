@@ -1,4 +1,4 @@
-use Rattle.tabled_draw.proofs.Common.{lit<, refl}
+use Rattle.tabled_draw.proofs.Common.{refl, lit<}
 use Rattle.tabled_draw.proofs.Pens.{draws-repeat}
 use Rattle.tabled_draw.proofs.pen.Pen.draw_blanks.Goals as goal
 

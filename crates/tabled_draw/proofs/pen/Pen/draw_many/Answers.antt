@@ -1,4 +1,4 @@
-use Rattle.tabled_draw.proofs.Common.{◌*◌, ◌++◌, ◌/◌, ◌∙◌, ◌≡◌, ap, arith, encode_utf8_all, replicate}
+use Rattle.tabled_draw.proofs.Common.{ap, arith, encode_utf8_all, replicate, ◌*◌, ◌++◌, ◌/◌, ◌∙◌, ◌≡◌}
 use Rattle.tabled_draw.proofs.Pens.{both-sent, draws-bytes, sent-as}
 use Rattle.tabled_draw.proofs.Runs.{run-more, runs-all}
 use Rattle.tabled_draw.proofs.pen.Pen.draw_many.Goals as goal

@@ -1,4 +1,4 @@
-use Rattle.tabled_draw.proofs.Common.{◌*◌, Sends, encode_utf8_all, replicate}
+use Rattle.tabled_draw.proofs.Common.{Sends, encode_utf8_all, replicate, ◌*◌}
 use Rattle.tabled_draw.proofs.pen.Pen.draw_many.Given as goal
 
 abbrev pub invariant-loop : goal.invariant-loop
