@@ -17,7 +17,7 @@ module _ (c : ℕ) (low : 31 < c) (high : c < 127) where
   printable-simple : list_all is_simple (c ∷ []) ≡ true
   printable-simple = grind (arith, nat_tests)
 
-  printable-ascii : list_all (is_in_range 0x20 0x7E) (c ∷ []) ≡ true
+  pub printable-ascii : list_all (is_in_range 0x20 0x7E) (c ∷ []) ≡ true
   printable-ascii = grind (arith, nat_tests)
 
   pub printable-attaches : attaches c ≡ false

@@ -7,11 +7,12 @@ use Rattle.tabled_width.proofs.Alone.{high-width, stands-alone}
 use Rattle.tabled_width.proofs.BeforeLetters.{attached-same, cluster-same}
 use Rattle.tabled_width.proofs.Begins.{first}
 use Rattle.tabled_width.proofs.First.{BeginsLetter, First, is_vowel}
-use Rattle.tabled_width.proofs.Flags.{Ended, bare_flag, ended, flag-free, flags-same, read-end, step-plain}
+use Rattle.tabled_width.proofs.Flags.{Ended, bare_flag, ended, flag-free, read-end, step-plain}
 use Rattle.tabled_width.proofs.Ligatures.{joining-before}
 use Rattle.tabled_width.proofs.Reading.{read-append, read-shifted, read-width, width-is}
 use Rattle.tabled_width.proofs.Scanning.{more-cluster, more-last}
 use Rattle.tabled_width.proofs.Untouched.{IsBare, same-step}
+use Rattle.tabled_width.proofs.WholeFlags.{flags-same}
 use Rattle.tabled_width.specs.Columns.{text_width}
 use Rattle.tabled_width.specs.Pieces.{attaches, belongs, character_width, ends_in_half_a_flag, is_kirat_vowel, last_cluster, last_of, stays}
 use Rattle.unicode_width.specs.Width.{Reading, alone, before, is_indicator, joins, plain, read_before, step}

@@ -11,11 +11,15 @@ pub mod LigatureSteps
 pub mod Ligatures
 pub mod OwnPieces
 pub mod PieceTexts
+pub mod PlainPieces
+pub mod PlainWords
+pub mod PlainWraps
 pub mod Reading
 pub mod Scanning
 pub mod Spaces
 pub mod Tables
 pub mod Untouched
+pub mod WholeFlags
 pub mod WrapBytes
 pub mod WrapFacts
 pub mod WrapFits

@@ -4,6 +4,8 @@
 mod columns;
 pub mod laws;
 mod pieces;
+mod plain;
+mod plain_wraps;
 #[cfg(test)]
 mod tests;
 mod widest;

@@ -1,11 +1,12 @@
 //! The pieces of texts.
 
-ghost use Rattle.std.specs.Prelude.{◌≡◌, ◌≤◌, ◌++◌, ◌∷◌, ℕ, [], List, MatchOption, chars};
+ghost use Rattle.std.specs.Prelude.{◌≡◌, ◌≤◌, ◌++◌, ◌∷◌, ℕ, [], List, IfSome, MatchOption, chars};
 ghost use Rattle.std.specs.Iterator.{YieldsFirstRef, item_count};
 ghost use Rattle.tabled_width.specs.Pieces.{attaches, character_width, differ_together, is_kirat_vowel, pieces_in, stays_behind};
 ghost use Rattle.unicode_width.specs.Width.{is_indicator};
 
 use crate::columns::columns_of;
+use crate::plain::is_plain_byte;
 use std::marker::Model;
 use unicode_width::UnicodeWidthChar;
 
@@ -56,10 +57,27 @@ impl<'a> Iterator for Pieces<'a> {
     ghost remaining = { item_count (λ s. s) };
 
     fn next(&mut self) -> Option<&'a str> {
-        let (piece, rest) = first_piece(self.rest)?;
+        let (piece, rest) = match plain_piece(self.rest) {
+            Some(found) => found,
+            None => first_piece(self.rest)?,
+        };
         self.rest = rest;
         Some(piece)
     }
+}
+
+/// The first piece of a text, and what is behind it, where two bytes tell: that is one character that takes one column.
+fn plain_piece(text: &str) -> Option<(&str, &str)>
+    ensures { IfSome result (λ found. pieces_in text.now ≡ found.0.now ∷ pieces_in found.1.now) }
+{
+    let bytes = text.as_bytes();
+    if bytes.is_empty() || !is_plain_byte(bytes[0]) {
+        return None;
+    }
+    if bytes.len() == 1 || is_plain_byte(bytes[1]) {
+        return Some(text.split_at(1));
+    }
+    None
 }
 
 /// The first piece of a text, and what is behind it.

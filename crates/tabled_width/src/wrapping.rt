@@ -8,6 +8,8 @@ ghost use Rattle.tabled_width.specs.Wraps.{all_lines_fit, wrapped};
 
 use crate::columns::columns_of;
 use crate::pieces::Pieces;
+use crate::plain::is_plain;
+use crate::plain_wraps::wrap_plain;
 use crate::widest::{is_blank, is_newline, is_space};
 use std::alloc::{AllocError, Global};
 
@@ -22,6 +24,9 @@ pub fn wrap(alloc: Global, text: &str, width: usize, keep_words: bool) -> Result
 {
     if width == 0 {
         return Ok(String::new(alloc));
+    }
+    if is_plain(text) {
+        return wrap_plain(alloc, text, width, keep_words);
     }
     let cuts = text.len() / width;
     let mut out = String::with_capacity(alloc, text.len().saturating_add(cuts))?;
@@ -46,6 +51,9 @@ pub fn wrap(alloc: Global, text: &str, width: usize, keep_words: bool) -> Result
 pub fn lines_fit(text: &str, width: usize) -> bool
     ensures { result ≡ all_lines_fit width (chars text.now) }
 {
+    if is_plain(text) {
+        return text.len() <= width;
+    }
     let mut used = 0;
     for piece in Pieces::new(text) {
         if is_newline(piece) {

@@ -2,6 +2,7 @@ use Rattle.std.proofs.Common.{[], ◌+◌, ◌<◌, ◌∙◌, ◌≡◌, List, 
 use Rattle.std.proofs.lemmas.Bool.{lt-leb}
 use Rattle.std.specs.Prelude.{chars}
 use Rattle.tabled_width.proofs.PieceTexts.{chars-pieces}
+use Rattle.tabled_width.proofs.PlainPieces.{plain-fits}
 use Rattle.tabled_width.proofs.WrapFits.{fit-lines}
 use Rattle.tabled_width.specs.Columns.{text_width}
 use Rattle.tabled_width.specs.Pieces.{is_just}
@@ -25,3 +26,6 @@ returns-then-columns-width c =
     let apart : is_just 10 (chars c.in-Some.piece.now) ≡ false = sym c.is_newline.ensures ∙ c.if-is_newline.false in
     let over : c.args.width < c.loop-piece.used + text_width (chars c.in-Some.piece.now) = omega (arith, c.if-columns-width.true, c.columns_of-columns.ensures.value, c.loop-piece.invariant.within) in
     (rw (apart, lt-leb _ _ over) at same) ∙ fit-lines c.args.width (chars c.args.text.now)
+
+pub returns-then-is_plain : goal.returns-then-is_plain
+returns-then-is_plain c = plain-fits c.args.width c.args.text.now (c.is_plain.ensures c.if-is_plain.true)
