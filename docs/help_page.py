@@ -1,5 +1,5 @@
-"""What `./tabled_script --help` prints: docs/pages/HELP.txt, whose lines such as `said:verbs` become what the language's
-page, docs/pages/SCRIPT.md, and its sources say.
+"""What the program tells of its words and faults, as constants of tabled_help: docs/pages/HELP.txt, whose lines such as
+`said:verbs` become what the language's page, docs/pages/SCRIPT.md, and its sources say.
 """
 
 import re
@@ -99,6 +99,7 @@ def faults(top, prose):
 
 
 def page(top):
+    """What `--help` prints."""
     prose = (top / "docs/pages/SCRIPT.md").read_text()
     makers = {
         "letters": lambda: "\n".join(line(*it) for it in table_of(under(prose, "Lines and words"))),
@@ -111,3 +112,56 @@ def page(top):
         "words": lambda: words(top),
     }
     return re.sub(r"^said:(\w+)$", lambda it: makers[it[1]](), (top / "docs/pages/HELP.txt").read_text(), flags=re.M)
+
+
+def entries(text):
+    """The lines of each word, with those that go on: (word, lines)."""
+    part = re.search(r"^LINES\n.*?(?=^STATUSES)", text, re.M | re.S)[0]
+    return re.findall(rf"^(  ([a-z-]+)\b.*\n(?: {{{LEFT}}}.*\n)*)", part, re.M)
+
+
+def asked_elsewhere(prose):
+    """Each word of another tool, and what is written here."""
+    rows = table_of(re.search(r"^### Fault 1: .*?(?=^###)", prose, re.M | re.S)[0])
+    return [(word, plain(way)) for names, way in rows for word in re.findall(r"`(\w+)`", names)]
+
+
+def fault_texts(page):
+    """The title of each fault, when it comes, its cure and its example."""
+    for part in re.findall(r"^### Fault \d: (.*?)(?=^##|\Z)", page, re.M | re.S):
+        title, when, cure = part.split("\n\n")[:3]
+        example = re.search(r"^    .*", part, re.M | re.S)[0]
+        yield plain(title), plain(when), plain(cure).removeprefix("Cure: "), example.rstrip() + "\n"
+
+
+def literal(text):
+    """A text as a literal of Rust, its newlines as they are."""
+    return '"' + text.replace("\\", "\\\\").replace('"', '\\"').replace("\t", "\\t") + '"'
+
+
+def record(name, **fields):
+    """A value of a type with these fields, as `rt fmt` lays it out."""
+    lines = "".join(f"        {it}: {literal(text)},\n" for it, text in fields.items())
+    return f"    {name} {{\n{lines}    }},\n"
+
+
+def array(about, name, kind, rows):
+    return f"/// {about}\npub const {name}: [{kind}; {len(rows)}] = [\n{''.join(rows)}];\n"
+
+
+def source(top, page_of_script):
+    """The source of tabled_help that has all texts."""
+    prose = (top / "docs/pages/SCRIPT.md").read_text()
+    text = page(top)
+    words = text.rpartition("ALL WORDS\n")[2].split()
+    return "\n".join(
+        [
+            "//! The texts that are told. Made by docs/make from docs/pages/SCRIPT.md and docs/pages/HELP.txt.\n",
+            "use crate::entry::{Entry, FaultText, Way};\n",
+            f"/// What the program can do.\npub const HELP: &str = {literal(text)};\n",
+            array("The words of scripts.", "WORDS", "&str", [f"    {literal(it)},\n" for it in words]),
+            array("What is said of each verb and each selector.", "ENTRIES", "Entry", [record("Entry", word=word, text=lines) for lines, word in entries(text)]),
+            array("Words of other tools, and what is written in their place.", "WAYS", "Way", [record("Way", word=word, way=way) for word, way in asked_elsewhere(prose)]),
+            array("What each fault is, by its number from 1 on.", "FAULTS", "FaultText", [record("FaultText", title=a, when=b, cure=c, example=d) for a, b, c, d in fault_texts(page_of_script)]),
+        ]
+    )

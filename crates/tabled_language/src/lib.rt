@@ -3,6 +3,7 @@
 
 mod draft;
 mod fault;
+mod faulty;
 mod keywords;
 pub mod laws;
 mod lent;
@@ -22,6 +23,7 @@ mod word;
 mod words;
 
 pub use fault::{Fault, ParseError};
+pub use faulty::{faulty_word, faulty_word_of_line};
 pub use lent::LentText;
 pub use padding::padded;
 pub use plain::PlainText;

@@ -55,11 +55,15 @@ value_line setting.File name = name ++ (codes " is no name of a file" ++ 10 ∷ 
 value_line setting.Separator name = name ++ (codes " is no separator: one character of ASCII, but no quote, or tab" ++ 10 ∷ [])
 value_line setting.Form name = codes "a table is written --to csv, and not to " ++ (name ++ 10 ∷ [])
 
--- the line that tells a refusal
+-- what is told of a refusal
+abbrev pub refusal_text : Refusal → List ℕ
+refusal_text (NoOption option) = codes "there is no option " ++ (string_bytes option ++ (codes ": --help lists them" ++ 10 ∷ []))
+refusal_text (WrongValue setting value) = value_line setting (string_bytes value)
+refusal_text NoValue = codes "the last option lacks its value" ++ 10 ∷ []
+refusal_text NotText = codes "an argument isn't UTF-8" ++ 10 ∷ []
+refusal_text (Unread name) = string_bytes name ++ (codes " can't be read" ++ 10 ∷ [])
+refusal_text OutOfMemory = memory_line
+
+-- the line that tells a refusal, behind the program's name
 abbrev pub refusal_line : Refusal → List ℕ
-refusal_line (NoOption option) = codes "there is no option " ++ (string_bytes option ++ (codes ": --help lists them" ++ 10 ∷ []))
-refusal_line (WrongValue setting value) = value_line setting (string_bytes value)
-refusal_line NoValue = codes "the last option lacks its value" ++ 10 ∷ []
-refusal_line NotText = codes "an argument isn't UTF-8" ++ 10 ∷ []
-refusal_line (Unread name) = string_bytes name ++ (codes " can't be read" ++ 10 ∷ [])
-refusal_line OutOfMemory = memory_line
+refusal_line refusal = codes "tabled_script: " ++ refusal_text refusal

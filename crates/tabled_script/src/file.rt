@@ -79,7 +79,7 @@ pub(crate) fn tell_file_fault<E: Write>(
         Some(file) => file.name.as_str(),
         None => "",
     };
-    if let Ok(note) = format!(in alloc; "{name}: line {line}: {fault}\n") {
+    if let Ok(note) = format!(in alloc; "tabled_script: {name}: line {line}: {fault}\n") {
         // Where it can't be told, the answer is the same.
         let _ = errors.write_all(note.as_bytes());
     }

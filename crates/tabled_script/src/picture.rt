@@ -52,7 +52,7 @@ impl TooNarrow {
     pub(crate) fn tell<E: Write>(self, alloc: Global, errors: &mut E) {
         let TooNarrow { asked, takes } = self;
         if let Ok(line) = format!(in alloc;
-            "no picture of the table is as narrow as {asked} columns: it takes {takes}\n"
+            "tabled_script: no picture of the table is as narrow as {asked} columns: it takes {takes}\n"
         ) {
             // Where it can't be told, the answer is the same.
             let _ = errors.write_all(line.as_bytes());

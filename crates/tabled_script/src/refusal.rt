@@ -3,7 +3,7 @@
 ghost use Rattle.std.specs.List.{flat_map};
 ghost use Rattle.std.specs.Prelude.{◌≡◌, ◌++◌, ◌∷◌, IfOk, OnOk};
 ghost use Rattle.std.specs.String.{string_bytes};
-ghost use Rattle.tabled_script.specs.Refusals.{EndsRefused, GetsFirst, refusal_line, status_of, value_line};
+ghost use Rattle.tabled_script.specs.Refusals.{EndsRefused, GetsFirst, refusal_line, refusal_text, status_of, value_line};
 ghost use Rattle.tabled_script.specs.declared.setting.Setting.TheVariants as setting;
 
 use crate::respond::{FAILED, OUT_OF_MEMORY, finish};
@@ -14,7 +14,7 @@ use tabled_draw::Style;
 use tabled_held::write_all;
 
 /// The answer to what can't be asked for.
-const REFUSED: u8 = 1;
+pub(crate) const REFUSED: u8 = 1;
 
 /// Why a request isn't answered.
 ///
@@ -74,8 +74,16 @@ impl Refusal {
         }
     }
 
+    /// Its line, behind the program's name.
     fn line(&self, alloc: Global) -> Result<String, AllocError>
         ensures { IfOk result (λ line. string_bytes line ≡ refusal_line self.now) }
+    {
+        let text = self.text(alloc)?;
+        format!(in alloc; "tabled_script: {text}")
+    }
+
+    fn text(&self, alloc: Global) -> Result<String, AllocError>
+        ensures { IfOk result (λ text. string_bytes text ≡ refusal_text self.now) }
     {
         match self {
             Refusal::NoOption(option) => {

@@ -22,7 +22,7 @@ use tabled_language::{Fault, LentText, ParseError, Script, padded, parse};
 use tabled_steps::{Step, run};
 
 /// The table was written.
-const DONE: u8 = 0;
+pub(crate) const DONE: u8 = 0;
 
 /// A line is faulty, and its number and fault were written; or no picture is as narrow as is asked for.
 pub(crate) const FAULTY: u8 = 2;

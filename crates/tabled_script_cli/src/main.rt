@@ -4,37 +4,58 @@
 use std::io::{self, ErrorKind};
 use std::process::ExitCode;
 use std::{env, fs};
-use tabled_script::{Arguments, Refusal, Request, Unread, answer, read_whole};
+use tabled_script::{
+    Arguments, Refusal, Request, Telling, Unread, answer, read_whole, tell_status, told_instead,
+};
 
 fn main(rt: HostRuntime) -> ExitCode {
     let mut writer = io::writer(&rt);
     let mut errors = rt.stderr();
-    let status = match request(&rt) {
-        Ok(request) => {
+    let status = match wanted(&rt) {
+        Ok(Wanted::Table(request)) => {
             let mut reader = rt.reader();
-            answer(rt.alloc(), &request, &mut reader, &mut writer, &mut errors)
+            let status = answer(rt.alloc(), &request, &mut reader, &mut writer, &mut errors);
+            if request.tells_faults {
+                tell_status(status, &mut errors);
+            }
+            status
         }
+        Ok(Wanted::Telling(telling)) => telling.tell(&mut writer, &mut errors),
         Err(refusal) => refusal.tell(rt.alloc(), &mut writer, &mut errors),
     };
     ExitCode::from(status)
 }
 
+/// A table, or what is told in its place.
+enum Wanted {
+    Table(Request),
+    Telling(Telling),
+}
+
 /// What the arguments ask for.
-fn request(rt: &HostRuntime) -> Result<Request, Refusal> {
-    let mut arguments = Arguments::new(rt.alloc());
-    let words = match env::args(rt) {
-        Ok(words) => words,
+fn wanted(rt: &HostRuntime) -> Result<Wanted, Refusal> {
+    let alloc = rt.alloc();
+    let arguments = match env::args(rt) {
+        Ok(arguments) => arguments,
         Err(error) => return Err(refusal(&error, Refusal::NotText)),
     };
-    // The first word is the program's name.
-    for word in words.skip(1) {
-        arguments = arguments.take(rt.alloc(), word.as_str())?;
+    let mut words = Vec::new(alloc);
+    // The first one is the program's name.
+    for argument in arguments.skip(1) {
+        words.push(argument)?;
     }
-    let mut request = arguments.into_request(rt.alloc())?;
+    if let Some(telling) = told_instead(alloc, &words)? {
+        return Ok(Wanted::Telling(telling));
+    }
+    let mut arguments = Arguments::new(alloc);
+    for word in &words {
+        arguments = arguments.take(alloc, word.as_str())?;
+    }
+    let mut request = arguments.into_request(alloc)?;
     if let Some(file) = &mut request.file {
         file.bytes = read_file(rt, file.name.as_str())?;
     }
-    Ok(request)
+    Ok(Wanted::Table(request))
 }
 
 /// The bytes of a file, or of standard input where it is called `-`.

@@ -4,6 +4,7 @@
 pub mod carried;
 pub mod csv;
 pub mod geometry;
+pub mod helping;
 pub mod language;
 pub mod merged;
 pub mod options;

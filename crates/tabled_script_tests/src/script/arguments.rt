@@ -87,7 +87,7 @@ fn arguments_ask_for_steps_and_forms(rt: HostRuntime) -> Result<(), Fail> {
             "",
             2,
             "",
-            "no picture of the table is as narrow as 8 columns: it takes 9\n",
+            "tabled_script: no picture of the table is as narrow as 8 columns: it takes 9\n",
         ),
         // A merged cell has the room of its columns, and a text that it hides counts for nothing.
         (
@@ -165,7 +165,7 @@ fn arguments_ask_for_steps_and_forms(rt: HostRuntime) -> Result<(), Fail> {
             "",
             2,
             "line 1: fault 1\n",
-            "step 1: fault 1: 'vmreg'\n",
+            "tabled_script: step 1: 'vmreg' is no word that can stand here; maybe vmerge is meant (fault 1: --explain 1)\n  in: 'vmreg'\n",
         ),
         (
             "--csv|f|--tell|then|vmerge|then|then|vmreg",
@@ -173,7 +173,7 @@ fn arguments_ask_for_steps_and_forms(rt: HostRuntime) -> Result<(), Fail> {
             "",
             2,
             "line 2: fault 1\n",
-            "step 2: fault 1: 'vmreg'\n",
+            "tabled_script: step 2: 'vmreg' is no word that can stand here; maybe vmerge is meant (fault 1: --explain 1)\n  in: 'vmreg'\n",
         ),
         (
             "--tell|vmerge|then|vmreg|a b",
@@ -181,7 +181,7 @@ fn arguments_ask_for_steps_and_forms(rt: HostRuntime) -> Result<(), Fail> {
             "row\ta\n",
             2,
             "line 3: fault 1\n",
-            "step 2: fault 1: 'vmreg' 'a b'\n",
+            "tabled_script: step 2: 'vmreg' is no word that can stand here; maybe vmerge is meant (fault 1: --explain 1)\n  in: 'vmreg' 'a b'\n",
         ),
         (
             "--tell|vmerge",
@@ -189,7 +189,7 @@ fn arguments_ask_for_steps_and_forms(rt: HostRuntime) -> Result<(), Fail> {
             "\nset\tcel\t\u{1b}\u{e4}\r",
             2,
             "line 2: fault 1\n",
-            "line 2: fault 1: 'set' 'cel' '\\u{1b}\u{e4}\\r'\n",
+            "tabled_script: line 2: 'cel' is no word that can stand here; maybe cell is meant (fault 1: --explain 1)\n  in: 'set' 'cel' '\\u{1b}\u{e4}\\r'\n",
         ),
         // Each kind of step that may name nothing, and one that names something.
         (
@@ -198,17 +198,17 @@ fn arguments_ask_for_steps_and_forms(rt: HostRuntime) -> Result<(), Fail> {
             "row\ta\n\nset\tcell\t1\t0\tx\nset\tall\ta\ndup\tall\tcontent\tx\ndup\trow\t2\tall\nclean\tcolumn\t1\ntabs\t1\tnot\tall\tall\ncspan\t2\tlast-row-plus\t1\nrspan\t2\tskip\t1\tframe\nremove\tnamed\tb\nheader\th\n",
             0,
             "shape\t1\t0\nrow\n",
-            "line 3: names nothing in the table: 'set' 'cell' '1' '0' 'x'\n\
-             line 5: names nothing in the table: 'dup' 'all' 'content' 'x'\n\
-             line 6: names nothing in the table: 'dup' 'row' '2' 'all'\n\
-             line 7: names nothing in the table: 'clean' 'column' '1'\n\
-             line 8: names nothing in the table: 'tabs' '1' 'not' 'all' 'all'\n\
-             line 9: names nothing in the table: 'cspan' '2' 'last-row-plus' '1'\n\
-             line 10: names nothing in the table: 'rspan' '2' 'skip' '1' 'frame'\n\
-             line 11: names nothing in the table: 'remove' 'named' 'b'\n\
-             step 2: names nothing in the table: 'remove' 'columns' '9' '10'\n\
-             step 3: names nothing in the table: 'remove' 'named' 'b'\n\
-             step 4: names nothing in the table: 'extract' '0' '1' '1' '1'\n",
+            "tabled_script: line 3: names nothing in the table: 'set' 'cell' '1' '0' 'x'\n\
+             tabled_script: line 5: names nothing in the table: 'dup' 'all' 'content' 'x'\n\
+             tabled_script: line 6: names nothing in the table: 'dup' 'row' '2' 'all'\n\
+             tabled_script: line 7: names nothing in the table: 'clean' 'column' '1'\n\
+             tabled_script: line 8: names nothing in the table: 'tabs' '1' 'not' 'all' 'all'\n\
+             tabled_script: line 9: names nothing in the table: 'cspan' '2' 'last-row-plus' '1'\n\
+             tabled_script: line 10: names nothing in the table: 'rspan' '2' 'skip' '1' 'frame'\n\
+             tabled_script: line 11: names nothing in the table: 'remove' 'named' 'b'\n\
+             tabled_script: step 2: names nothing in the table: 'remove' 'columns' '9' '10'\n\
+             tabled_script: step 3: names nothing in the table: 'remove' 'named' 'b'\n\
+             tabled_script: step 4: names nothing in the table: 'extract' '0' '1' '1' '1'\n",
         ),
         // Rows of a file stand before those of a script, whose lines keep their numbers.
         (
@@ -217,7 +217,7 @@ fn arguments_ask_for_steps_and_forms(rt: HostRuntime) -> Result<(), Fail> {
             "row\tx\nspin\n",
             2,
             "line 2: fault 1\n",
-            "line 2: fault 1: 'spin'\n",
+            "tabled_script: line 2: 'spin' is no word that can stand here; maybe span is meant (fault 1: --explain 1)\n  in: 'spin'\n",
         ),
         (
             "--csv|f|--to|csv|row|x|y|then|rotate|top",
@@ -241,7 +241,7 @@ fn arguments_ask_for_steps_and_forms(rt: HostRuntime) -> Result<(), Fail> {
             "spin",
             2,
             "csv line 2: fault 1\n",
-            "f: line 2: a quote is not closed\n",
+            "tabled_script: f: line 2: a quote is not closed\n",
         ),
         (
             "--csv|f|--separator|tab",
@@ -299,7 +299,8 @@ fn what_cannot_be_asked_is_refused(rt: HostRuntime) -> Result<(), Fail> {
             Err(refusal) => refusal.tell(alloc, &mut written, &mut errors),
         };
         assert_eq!(rt; status, 1, "{arguments}");
-        assert_eq!(rt; errors.as_slice(), told.as_bytes());
+        let line = format!(in alloc; "tabled_script: {told}")?;
+        assert_eq!(rt; errors.as_slice(), line.as_bytes());
         assert!(rt; written.is_empty());
     }
     Ok(())

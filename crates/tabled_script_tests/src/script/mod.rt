@@ -4,4 +4,5 @@ mod answers;
 mod arguments;
 mod faults;
 mod gallery;
+mod help;
 mod widths;
