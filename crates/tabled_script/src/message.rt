@@ -1,7 +1,7 @@
 //! What is told of a faulty line: where it is, the word at fault, its likely cure, and the line's words.
 
 use std::alloc::{AllocError, Global};
-use tabled_help::{WAYS, WORDS, nearest, way_of};
+use tabled_help::{ENTRIES, WAYS, WORDS, nearest, way_of};
 use tabled_language::Fault;
 
 /// What is wrong with a line whose words are these, where the one of an index is at fault, and what may be meant.
@@ -15,11 +15,17 @@ pub(crate) fn complaint(
     let word = words.get(at).copied().unwrap_or("");
     let mut told = String::new(alloc);
     match fault {
-        Fault::UnknownWord => push_unknown(alloc, &mut told, word)?,
+        Fault::UnknownWord => push_unknown(alloc, &mut told, verb, word)?,
         Fault::WordCount if at < words.len() => {
             push_quoted(&mut told, word)?;
             told.push_str(" is left over: ")?;
-            push_help(&mut told, verb)?;
+            if word.starts_with("--") {
+                told.push_str("options stand before the steps")?;
+            } else if is_verb(word) {
+                told.push_str("among arguments 'then' stands between two steps")?;
+            } else {
+                push_help(&mut told, verb)?;
+            }
         }
         Fault::WordCount => {
             told.push_str("a word is missing behind ")?;
@@ -54,8 +60,13 @@ pub(crate) fn complaint(
     Ok(told)
 }
 
-/// Adds what is told of a word that is none of scripts.
-fn push_unknown(alloc: Global, told: &mut String, word: &str) -> Result<(), AllocError> {
+/// Adds what is told of a word that can't stand where it does.
+fn push_unknown(
+    alloc: Global,
+    told: &mut String,
+    verb: &str,
+    word: &str,
+) -> Result<(), AllocError> {
     push_quoted(told, word)?;
     let lower = word.to_lowercase(alloc)?;
     if let Some(way) = way_of(lower.as_str(), &WAYS) {
@@ -68,10 +79,24 @@ fn push_unknown(alloc: Global, told: &mut String, word: &str) -> Result<(), Allo
             ": the line ends with a carriage return, and is to end with a newline alone",
         );
     }
+    if word.starts_with('-') {
+        return told.push_str(": options stand before the steps");
+    }
+    if lower.ends_with(".csv") || lower.ends_with(".tsv") {
+        told.push_str(": a file is read by --csv ")?;
+        return told.push_str(word);
+    }
     if word.contains(' ') {
         return told.push_str(
             ": single tabs part words, or, among arguments, blanks outside of quotes",
         );
+    }
+    if word.contains(',') {
+        return told.push_str(": CSV is read by --csv FILE, and from standard input by --csv -");
+    }
+    if WORDS.contains(&word) {
+        told.push_str(": ")?;
+        return push_help(told, verb);
     }
     match nearest(lower.as_str(), &WORDS) {
         Some(meant) => {
@@ -96,6 +121,14 @@ pub(crate) fn push_quoted(told: &mut String, word: &str) -> Result<(), AllocErro
         }
     }
     told.push('\'')
+}
+
+/// Says whether a word begins lines of scripts.
+fn is_verb(word: &str) -> bool {
+    ENTRIES
+        .iter()
+        .take_while(|entry| entry.word != "all")
+        .any(|entry| entry.word == word)
 }
 
 /// Adds how the words of a verb are told.

@@ -11,7 +11,7 @@ use tabled_script::{
 fn main(rt: HostRuntime) -> ExitCode {
     let mut writer = io::writer(&rt);
     let mut errors = rt.stderr();
-    let status = match wanted(&rt) {
+    let status = match asked(&rt) {
         Ok(Wanted::Table(request)) => {
             let mut reader = rt.reader();
             let status = answer(rt.alloc(), &request, &mut reader, &mut writer, &mut errors);
@@ -33,7 +33,7 @@ enum Wanted {
 }
 
 /// What the arguments ask for.
-fn wanted(rt: &HostRuntime) -> Result<Wanted, Refusal> {
+fn asked(rt: &HostRuntime) -> Result<Wanted, Refusal> {
     let alloc = rt.alloc();
     let arguments = match env::args(rt) {
         Ok(arguments) => arguments,
