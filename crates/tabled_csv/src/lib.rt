@@ -15,7 +15,7 @@ mod stop;
 mod writing;
 
 pub use fault::{Fault, ReadError, WriteError};
-pub use reading::read;
-pub use room::Room;
+pub use reading::{read, read_with};
+pub use room::{Room, Spare};
 pub use separator::Separator;
 pub use writing::{write, write_records};

@@ -116,16 +116,31 @@ pub fn read<'a>(
     ensures none { IfErr result (AtFault (λ line fault. NoRows separator bytes.now)) }
     ensures fault { IfErr result (AtFault (IsFault separator bytes.now)) }
 {
+    read_with(alloc, separator, bytes, &mut Spare::new(room))
+}
+
+/// The rows of texts that bytes mean as CSV, as `read` gives them. What a room has left may serve for several.
+///
+/// Of this project.
+pub fn read_with<'a>(
+    alloc: Global,
+    separator: Separator,
+    bytes: &'a [u8],
+    spare: &mut Spare<'a>,
+) -> Result<Vec<Vec<&'a str>>, ReadError>
+    ensures rows { IfOk result (λ rows. IsCsv separator bytes.now (rows_of rows.items)) }
+
+    // Bytes that mean no row take no memory.
+    ensures promised { IsCsv separator bytes.now [] → IsOk result }
+
+    // Where there is a fault, no rows are the meaning of these bytes.
+    ensures none { IfErr result (AtFault (λ line fault. NoRows separator bytes.now)) }
+    ensures fault { IfErr result (AtFault (IsFault separator bytes.now)) }
+{
     let text = behind_mark(bytes);
     // To test all bytes at once takes less than to test those of each field.
     let is_text = str::from_utf8(text).is_ok();
-    match lines(
-        alloc,
-        separator.byte(),
-        is_text,
-        text,
-        &mut Spare::new(room),
-    ) {
+    match lines(alloc, separator.byte(), is_text, text, spare) {
         Ok(rows) => Ok(rows),
         Err(Unread::Faulty(fault, left)) => {
             let line = line_at(text, left);

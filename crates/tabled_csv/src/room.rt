@@ -37,8 +37,10 @@ impl Room {
 }
 
 /// What is left of a room. A contract sees how many bytes can be had with no more memory.
+///
+/// Of this project.
 #[derive(Drop)]
-pub(crate) struct Spare<'a> {
+pub struct Spare<'a> {
     bytes: &'a mut [u8],
     parts: &'a mut [Vec<u8>],
     next: usize,
@@ -54,7 +56,9 @@ impl<'a> Model for Spare<'a> {
 
 impl<'a> Spare<'a> {
     /// All of a room.
-    pub(crate) fn new(room: &'a mut Room) -> Self {
+    ///
+    /// Of this project.
+    pub fn new(room: &'a mut Room) -> Self {
         Spare {
             bytes: &mut [],
             parts: room.parts.as_mut_slice(),

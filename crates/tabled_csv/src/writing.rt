@@ -1,119 +1,110 @@
 //! CSV, written.
 
-ghost use Rattle.std.specs.Prelude.{◌≡◌, ◌<◌, ◌==◌, [], Err, None, OnErr, OnOk, drop, length};
+ghost use Rattle.std.specs.Prelude.{◌≡◌, ◌<◌, ◌==◌, ◌∷◌, Err, None, OnOk, drop, length};
 ghost use Rattle.std.specs.Io.KnownBytes.{Appends};
 ghost use Rattle.std.specs.List.{AllByRecursion};
 ghost use Rattle.tabled_csv.specs.Grammar.{quoted};
 ghost use Rattle.tabled_csv.specs.Texts.{cells_by, row_at, rows_by};
-ghost use Rattle.tabled_csv.specs.Writing.{AreTexts, HaveFields, OnFailed, WrittenMeans, csv_of, field_of, others_of, record_of};
+ghost use Rattle.tabled_csv.specs.Writing.{AreTexts, HaveFields, OnFailed, WrittenMeans, csv_of, field_of, holds_special, others_of, record_of};
 ghost use Rattle.tabled_csv.specs.declared.fault.WriteError.TheVariants.{OutOfMemory};
-ghost use Rattle.tabled_held.specs.Sent.{GrowsBy, IsCutShort};
+ghost use Rattle.tabled_held.specs.Pens.{Sends};
+ghost use Rattle.tabled_held.specs.Sent.{IsCutShort};
 
 use crate::fault::WriteError;
 use crate::quoting::{first_is_quoted, holds_special};
 use crate::rows::{Rows, Stored};
 use crate::separator::Separator;
 use std::alloc::Global;
-use std::io::{self, Write};
+use std::io::Write;
 use tabled_grid::records::{CellText, ExactRecords, PeekableRecords, Records};
-use tabled_held::Held;
+use tabled_held::{Held, Pen};
 
 /// Writes a text between quotes.
 #[inline(never)]
-fn write_quoted<W: Write>(writer: &mut W, held: &mut Held, text: &[u8])
-    ensures { GrowsBy (W.contents writer.old) held.old (W.contents writer.new) held.new (quoted text.now) }
+fn write_quoted<W: Write>(pen: &mut Pen<'_, W>, text: &[u8])
+    ensures { Sends W.contents pen.old pen.new (quoted text.now) }
 {
-    held.push(writer, b'"');
+    pen.send_byte(b'"');
     let mut written = 0;
     for (i, byte) in text.iter().enumerate() {
         if *byte == b'"' {
-            held.write(writer, &text[written..i + 1]);
-            held.push(writer, b'"');
+            pen.send(&text[written..i + 1]);
+            pen.send_byte(b'"');
             written = i + 1;
         }
     }
-    held.write(writer, &text[written..]);
-    held.push(writer, b'"');
+    pen.send(&text[written..]);
+    pen.send_byte(b'"');
 }
 
 /// Writes a field, between quotes or not.
 #[inline(always)]
-fn write_field<W: Write>(writer: &mut W, held: &mut Held, is_quoted: bool, text: &[u8])
-    ensures { GrowsBy (W.contents writer.old) held.old (W.contents writer.new) held.new (field_of is_quoted text.now) }
+fn write_field<W: Write>(pen: &mut Pen<'_, W>, is_quoted: bool, text: &[u8])
+    ensures { Sends W.contents pen.old pen.new (field_of is_quoted text.now) }
 {
     if is_quoted {
-        write_quoted(writer, held, text);
+        write_quoted(pen, text);
     } else {
-        held.write(writer, text);
+        pen.send(text);
     }
 }
 
 /// Writes the fields behind the first one of a record, with the separators before them.
-fn write_others<W: Write, R: Rows>(
-    writer: &mut W,
-    held: &mut Held,
-    separator: u8,
-    rows: &R,
-    i: usize,
-)
+fn write_others<W: Write, R: Rows>(pen: &mut Pen<'_, W>, separator: u8, rows: &R, i: usize)
     requires well { R.is_well rows.now }
     requires row { i < length (R.texts rows.now) }
-    ensures sends { GrowsBy (W.contents writer.old) held.old (W.contents writer.new) held.new (others_of separator (drop 1 (row_at (R.texts rows.now) i))) }
+    ensures sends { Sends W.contents pen.old pen.new (others_of separator (drop 1 (row_at (R.texts rows.now) i))) }
     ensures texts { AreTexts (drop 1 (row_at (R.texts rows.now) i)) }
 {
     for j in 1..rows.width(i) {
-        let text = rows.text(i, j).as_bytes();
-        held.push(writer, separator);
-        write_field(writer, held, holds_special(separator, text), text);
+        write_other(pen, separator, rows.text(i, j).as_bytes());
+    }
+}
+
+/// Writes a separator and the field behind it.
+#[inline(always)]
+fn write_other<W: Write>(pen: &mut Pen<'_, W>, separator: u8, text: &[u8])
+    ensures { Sends W.contents pen.old pen.new (separator ∷ field_of (holds_special separator text.now) text.now) }
+{
+    if holds_special(separator, text) {
+        pen.send_byte(separator);
+        write_quoted(pen, text);
+    } else {
+        pen.send_behind(separator, text);
     }
 }
 
 /// Writes a record and the end of its line.
-fn write_record<W: Write, R: Rows>(
-    writer: &mut W,
-    held: &mut Held,
-    separator: u8,
-    rows: &R,
-    i: usize,
-)
+fn write_record<W: Write, R: Rows>(pen: &mut Pen<'_, W>, separator: u8, rows: &R, i: usize)
     requires well { R.is_well rows.now }
     requires row { i < length (R.texts rows.now) }
-    ensures sends { GrowsBy (W.contents writer.old) held.old (W.contents writer.new) held.new (record_of separator (i == 0) (row_at (R.texts rows.now) i)) }
+    ensures sends { Sends W.contents pen.old pen.new (record_of separator (i == 0) (row_at (R.texts rows.now) i)) }
     ensures texts { AreTexts (row_at (R.texts rows.now) i) }
 {
     let width = rows.width(i);
     if width == 0 {
-        held.push(writer, b'\n');
+        pen.send_byte(b'\n');
         return;
     }
     let text = rows.text(i, 0).as_bytes();
     let is_quoted = first_is_quoted(separator, i == 0, width == 1, text);
-    write_field(writer, held, is_quoted, text);
-    write_others(writer, held, separator, rows, i);
-    held.push(writer, b'\n');
+    write_field(pen, is_quoted, text);
+    write_others(pen, separator, rows, i);
+    pen.send_byte(b'\n');
 }
 
-/// Writes rows.
-fn write_rows<W: Write, R: Rows>(
-    writer: &mut W,
-    held: &mut Held,
-    separator: u8,
-    rows: &R,
-) -> io::Result<()>
-    requires unused { held.old.bytes ≡ [] }
-    requires works { held.old.failure ≡ None }
+/// Writes rows, up to the first at which the writer has failed.
+fn write_rows<W: Write, R: Rows>(pen: &mut Pen<'_, W>, separator: u8, rows: &R)
     requires well { R.is_well rows.now }
-    ensures written { OnOk result (Appends (W.contents writer.old) (W.contents writer.new) (csv_of separator (R.texts rows.now))) }
-    ensures failed { OnErr result (IsCutShort (W.contents writer.old) (W.contents writer.new) (csv_of separator (R.texts rows.now))) }
-    ensures texts { OnOk result (AllByRecursion AreTexts (R.texts rows.now)) }
+    ensures sends { Sends W.contents pen.old pen.new (csv_of separator (R.texts rows.now)) }
+    ensures texts { pen.new.held.failure ≡ None → AllByRecursion AreTexts (R.texts rows.now) }
 {
     for i in 0..rows.count() {
-        write_record(writer, held, separator, rows, i);
-        held.outcome()?;
+        write_record(pen, separator, rows, i);
+        if pen.has_failed() {
+            return;
+        }
     }
-    held.send(writer);
-    held.outcome()?;
-    Ok(())
 }
 
 /// Writes rows, in room that is asked for first.
@@ -129,8 +120,13 @@ fn write_texts<W: Write, R: Rows>(
     ensures memory { result ≡ Err OutOfMemory → W.contents writer.new ≡ W.contents writer.old }
     ensures failed { OnFailed result (IsCutShort (W.contents writer.old) (W.contents writer.new) (csv_of separator (R.texts rows.now))) }
 {
-    let mut held = Held::new(alloc)?;
-    match write_rows(writer, &mut held, separator.byte(), rows) {
+    let held = Held::new(alloc)?;
+    let mut pen = Pen::new(writer, held);
+    write_rows(&mut pen, separator.byte(), rows);
+    let (written, outcome) = pen.finish();
+    // No effect: the proof reads here what the writer got.
+    let _ = &*written;
+    match outcome {
         Ok(()) => Ok(()),
         Err(error) => Err(WriteError::Failed(error)),
     }

@@ -20,7 +20,6 @@ pub mod Pens
 pub mod PictureWidths
 pub mod Replaced
 pub mod Rows
-pub mod Runs
 pub mod Shares
 pub mod Shown
 pub mod Singly

@@ -7,7 +7,7 @@ use Rattle.tabled_draw.proofs.Each.{each-more, get-singles, length-singles, spli
 use Rattle.tabled_draw.specs.Markdown.{characters, dashes_line, lines_at, lines_of, markdown_width, markdown_widths, row_line, rows_of_characters}
 use Rattle.tabled_grid.specs.Evenness.{AreWide}
 use Rattle.tabled_grid.specs.Grid.{map_items}
-use Rattle.tabled_draw.proofs.Pens.{draws-as, draws-then}
+use Rattle.tabled_held.proofs.Pens.{draws-as, draws-then}
 
 -- the characters of a text in a row
 pub characters-at : (row : List (String Global)) (j : ℕ) (text : String Global) → j < length row → text ≡ get_or row j text → characters text ≡ get_or (map characters row) j []

@@ -4,7 +4,7 @@ use Rattle.tabled_draw.specs.Borders.{line_size}
 use Rattle.tabled_draw.specs.Lines.{AreLeft, bytes_in, plan_on}
 use Rattle.tabled_draw.specs.Owners.{IsOwnerRow, count_before}
 use Rattle.tabled_draw.specs.Picture.{Plan, heights, left, plan_of, top, widths}
-use Rattle.tabled_draw.specs.Runs.{run_of}
+use Rattle.tabled_held.specs.Runs.{run_of}
 use Rattle.tabled_draw.specs.Sizes.{start_of}
 use Rattle.tabled_draw.specs.Unmerged.{IsBetween}
 use Rattle.tabled_draw.specs.declared.band.Band.{Band}

@@ -9,9 +9,7 @@ pub mod MarkdownRead
 pub mod Marks
 pub mod Overall
 pub mod Owners
-pub mod Pens
 pub mod Picture
-pub mod Runs
 pub mod Sizes
 pub mod Standing
 pub mod StyleLaws

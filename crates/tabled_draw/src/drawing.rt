@@ -4,7 +4,7 @@ ghost use Rattle.std.specs.Prelude.{◌≡◌, ◌+◌, ◌<◌, IfOk, IsTrue, O
 ghost use Rattle.tabled_draw.specs.Borders.{is_drawn};
 ghost use Rattle.tabled_draw.specs.Laid.{HasRoom, IsBand, IsSheet};
 ghost use Rattle.tabled_draw.specs.Lines.{AreBegun, AreCutIf, EndInside, begun, bytes_in, drawn_border, drawn_picture, drawn_row, plan_on};
-ghost use Rattle.tabled_draw.specs.Pens.{Draws};
+ghost use Rattle.tabled_held.specs.Pens.{Draws};
 ghost use Rattle.tabled_draw.specs.Picture.{drawn, drawn_in};
 ghost use Rattle.tabled_draw.specs.Unmerged.{AreUnmerged};
 ghost use Rattle.tabled_draw.specs.Width.{picture_width};
@@ -17,7 +17,6 @@ use crate::layout::{Layout, layout_of};
 use crate::lines::{line_between, write_border_line, write_known_line, write_row_line};
 use crate::look::Look;
 use crate::owners::{Owner, are_unmerged, clear, write_owners};
-use crate::pen::{Pen, run_of};
 use crate::sheet::Sheet;
 use crate::style::Style;
 use std::alloc::{AllocError, Global};
@@ -26,7 +25,7 @@ use std::marker::Model;
 use std::mem;
 use tabled_grid::config::{Position, Rectangle, SpannedConfig};
 use tabled_grid::records::{CellText, ExactRecords, PeekableRecords, Records};
-use tabled_held::Held;
+use tabled_held::{Held, Pen, run_of};
 
 /// A table that is laid out, with all the memory that drawing it takes. A contract sees it as the bytes of its
 /// picture.

@@ -13,7 +13,6 @@ mod look;
 mod markdown;
 mod markdown_texts;
 mod owners;
-mod pen;
 mod pictures;
 mod sheet;
 mod style;

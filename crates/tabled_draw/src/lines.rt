@@ -4,21 +4,20 @@ ghost use Rattle.std.specs.Prelude.{◌≡◌, ◌+◌, ◌<◌, [], IfOk, OnOk,
 ghost use Rattle.std.specs.Io.KnownBytes.{Appends};
 ghost use Rattle.tabled_draw.specs.Borders.{differ, edge, size_if};
 ghost use Rattle.tabled_draw.specs.Lines.{AreCut, EndInside, IsCutAt, bytes_in, column, drawn_line, drawn_unmerged, left_inside, text_inside};
-ghost use Rattle.tabled_draw.specs.Pens.{Draws};
+ghost use Rattle.tabled_held.specs.Pens.{Draws};
 ghost use Rattle.tabled_draw.specs.Unmerged.{IsBetween, level, marked};
 ghost use Rattle.tabled_grid.specs.declared.config.rectangle.Rectangle.{Rectangle};
 
 use crate::alignment::alignment_in;
 use crate::borders::{corner, differ, is_drawn, is_drawn_after, pad, size_if};
 use crate::owners::Owner;
-use crate::pen::Pen;
 use crate::sheet::Sheet;
 use crate::texts::write_cell;
 use std::alloc::{AllocError, Global};
 use std::io::{self, Write};
 use tabled_grid::config::Rectangle;
 use tabled_grid::records::Axis;
-use tabled_held::Held;
+use tabled_held::{Held, Pen};
 
 /// Writes a line of a row: borders between its owners, and their texts. Of each text that begins here, the lines that
 /// are left are cut by one.

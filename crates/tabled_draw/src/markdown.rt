@@ -5,7 +5,7 @@ ghost use Rattle.std.specs.Io.KnownBytes.{Appends};
 ghost use Rattle.tabled_draw.specs.Alignments.{aligned};
 ghost use Rattle.tabled_draw.specs.Each.{each};
 ghost use Rattle.tabled_draw.specs.Markdown.{characters, dashes, dashes_line, first_dash, last_dash, lines_at, markdown, row_line, rows_of_characters};
-ghost use Rattle.tabled_draw.specs.Pens.{Draws};
+ghost use Rattle.tabled_held.specs.Pens.{Draws};
 ghost use Rattle.tabled_draw.specs.Picture.{LeavesSome, with_newlines};
 ghost use Rattle.tabled_grid.specs.Evenness.{AreWide};
 ghost use Rattle.tabled_grid.specs.Grid.{map_grid, map_items};
@@ -13,13 +13,12 @@ ghost use Rattle.tabled_held.specs.Sent.{IsCutShort};
 
 use crate::alignment::{Alignment, alignment_in, indent};
 use crate::markdown_texts::{markdown_widths, texts_apart};
-use crate::pen::Pen;
 use std::alloc::{AllocError, Global};
 use std::io::{self, Write};
 use std::marker::Model;
 use tabled_grid::config::SpannedConfig;
 use tabled_grid::records::{CellText, ExactRecords, PeekableRecords, Records};
-use tabled_held::Held;
+use tabled_held::{Held, Pen};
 use tabled_width::columns_of;
 
 /// Writes a table (`r x c`) as Markdown, its first row as the header, with texts aligned by columns as `Look::align`

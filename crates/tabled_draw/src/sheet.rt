@@ -1,7 +1,7 @@
 //! What all lines of a picture share.
 
 ghost use Rattle.std.specs.Prelude.{◌≡◌, ◌+◌, length};
-ghost use Rattle.tabled_draw.specs.Runs.{run_of};
+ghost use Rattle.tabled_held.specs.Runs.{run_of};
 ghost use Rattle.tabled_draw.specs.Unmerged.{IsBetween};
 
 use crate::look::Look;

@@ -2,15 +2,15 @@
 
 ghost use Rattle.std.specs.Prelude.{◌≡◌, ◌-◌, IsTrue};
 ghost use Rattle.tabled_draw.specs.Alignments.{cell};
-ghost use Rattle.tabled_draw.specs.Pens.{Draws};
+ghost use Rattle.tabled_held.specs.Pens.{Draws};
 ghost use Rattle.tabled_draw.specs.Sizes.{asks};
 ghost use Rattle.tabled_draw.specs.Texts.{ArePlain, IsLine, after_line, first_line, shown_character, shown_line, text_width};
 ghost use Rattle.tabled_grid.specs.declared.records.axis.Axis.TheVariants.{Rows, Columns};
 
 use crate::alignment::{Alignment, indent};
-use crate::pen::Pen;
 use std::io::Write;
 use tabled_grid::config::Size;
+use tabled_held::Pen;
 use tabled_width::columns_of;
 
 /// The character that is shown for one: for a control character another one, which can be seen.

@@ -1,1 +1,3 @@
 pub mod SentBytes
+pub mod Pens
+pub mod Runs

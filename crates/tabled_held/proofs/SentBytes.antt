@@ -38,15 +38,15 @@ are-then (Some e) (Some d) h first left others sent more rest a b = (ap (λ (l :
 
 -- ---- what grows
 
-pub sends-none : {a : Option (List ℕ)} {h : Kept} → GrowsBy a h a h []
-sends-none {a} {h} = record { sent = []; got = Appends-nil a; are = are-none h.failure h.bytes }
+pub grows-none : {a : Option (List ℕ)} {h : Kept} → GrowsBy a h a h []
+grows-none {a} {h} = record { sent = []; got = Appends-nil a; are = are-none h.failure h.bytes }
 
-pub sends-as : {a b : Option (List ℕ)} {h i : Kept} {xs ys : List ℕ} → xs ≡ ys → GrowsBy a h b i xs → GrowsBy a h b i ys
-sends-as {a} {b} {h} {i} same = subst (GrowsBy a h b i) same
+pub grows-as : {a b : Option (List ℕ)} {h i : Kept} {xs ys : List ℕ} → xs ≡ ys → GrowsBy a h b i xs → GrowsBy a h b i ys
+grows-as {a} {b} {h} {i} same = subst (GrowsBy a h b i) same
 
 -- some bytes, and then others
-pub sends-then : {a b c : Option (List ℕ)} {h i j : Kept} {xs ys : List ℕ} → GrowsBy a h b i xs → GrowsBy b i c j ys → GrowsBy a h c j (xs ++ ys)
-sends-then {a} {b} {c} {h} {i} {j} {xs} {ys} first second = record {
+pub grows-then : {a b c : Option (List ℕ)} {h i j : Kept} {xs ys : List ℕ} → GrowsBy a h b i xs → GrowsBy b i c j ys → GrowsBy a h c j (xs ++ ys)
+grows-then {a} {b} {c} {h} {i} {j} {xs} {ys} first second = record {
   sent = first.sent ++ second.sent;
   got = Appends-trans a b c first.sent second.sent first.got second.got;
   are = subst (λ (l : List ℕ). AreSent h.failure j.failure l (first.sent ++ second.sent) j.bytes) (append_assoc h.bytes xs ys)
@@ -54,19 +54,19 @@ sends-then {a} {b} {c} {h} {i} {j} {xs} {ys} first second = record {
 }
 
 -- a writer that has failed gets no more
-pub sends-failed : {T : Type 0} (a : Option (List ℕ)) (h : Kept) (r : Result T Error) (xs : List ℕ) → h.failure ≡ result_err r → is_ok r ≡ false → GrowsBy a h a h xs
-sends-failed a h (Ok x) xs is failed = cc failed
-sends-failed a h (Err e) xs is failed = record { sent = []; got = Appends-nil a; are = rw is (refl, refl) }
+pub grows-failed : {T : Type 0} (a : Option (List ℕ)) (h : Kept) (r : Result T Error) (xs : List ℕ) → h.failure ≡ result_err r → is_ok r ≡ false → GrowsBy a h a h xs
+grows-failed a h (Ok x) xs is failed = cc failed
+grows-failed a h (Err e) xs is failed = record { sent = []; got = Appends-nil a; are = rw is (refl, refl) }
 
 pub no-failure : {T : Type 0} (r : Result T Error) → is_ok r ≡ true → result_err r ≡ None
 no-failure (Ok x) works = refl
 no-failure (Err e) works = cc works
 
 -- where nothing is held, bytes are written at once
-pub sends-written : {T : Type 0} (a b : Option (List ℕ)) (h : Kept) (left : List ℕ) (r : Result T Error) (xs : List ℕ) → h.bytes ≡ [] → h.failure ≡ None → left ≡ [] → OnOk r (Appends a b xs)
+pub grows-written : {T : Type 0} (a b : Option (List ℕ)) (h : Kept) (left : List ℕ) (r : Result T Error) (xs : List ℕ) → h.bytes ≡ [] → h.failure ≡ None → left ≡ [] → OnOk r (Appends a b xs)
     → OnErr r (IsCutShort a b xs) → GrowsBy a h b (record { bytes = left; failure = result_err r }) xs
-sends-written a b h left (Ok x) xs unused works empty written failed = record { sent = xs; got = written; are = rw (unused, works, empty) (sym (append-nil xs)) }
-sends-written a b h left (Err e) xs unused works empty written failed = record { sent = failed.sent; got = failed.got; are = rw (unused, works) (failed.unsent, failed.parts, failed.some) }
+grows-written a b h left (Ok x) xs unused works empty written failed = record { sent = xs; got = written; are = rw (unused, works, empty) (sym (append-nil xs)) }
+grows-written a b h left (Err e) xs unused works empty written failed = record { sent = failed.sent; got = failed.got; are = rw (unused, works) (failed.unsent, failed.parts, failed.some) }
 
 -- some of the bytes that are left are written
 pub written-more : (a b c : Option (List ℕ)) (bytes sent rest : List ℕ) (count : ℕ) → bytes ≡ sent ++ rest → Appends a b sent → Appends b c (take count rest)

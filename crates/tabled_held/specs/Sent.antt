@@ -1,5 +1,6 @@
 -- What a writer has got of the bytes that are sent to it, and what is held for it.
 use Rattle.std.specs.Prelude.{◌≡◌, ◌≢◌, ◌++◌, ℕ, List, [], Option, None, Some}
+use Rattle.std.specs.Borrow.{MutBor}
 use Rattle.std.specs.Io.KnownBytes.{Appends}
 use Rattle.std.specs.declared.io.Error.{Error}
 
@@ -28,3 +29,8 @@ pub record GrowsBy (old : Option (List ℕ)) (held : Kept) (new : Option (List �
   pub sent : List ℕ
   pub got : Appends old new sent
   pub are : AreSent held.failure left.failure (held.bytes ++ bytes) sent left.bytes
+
+-- a writer that is lent, and what is held for it
+pub record Writing (W : Type 0) : Type 0 where
+  pub writer : MutBor W
+  pub held : Kept

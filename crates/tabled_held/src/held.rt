@@ -11,7 +11,7 @@ use std::marker::Model;
 /// How many bytes are held at most.
 const ROOM: usize = 16_384;
 
-/// Bytes that are held, and how the writer did so far: once it has failed, it gets no more, and its failure is kept.
+/// Bytes that are held for a writer, and how it did so far: once it has failed, it gets no more, and its failure is kept.
 /// Their room never grows.
 ///
 /// Of this project.
@@ -46,18 +46,14 @@ impl Held {
     }
 
     /// How the writer did so far. Once it has failed, each call tells this failure.
-    ///
-    /// Of this project.
-    pub fn outcome(&self) -> io::Result<()>
+    pub(crate) fn outcome(&self) -> io::Result<()>
         ensures { MatchResult result (λ _. self.now.failure ≡ None) (λ failure. self.now.failure ≡ Some failure) }
     {
         self.outcome
     }
 
     /// Sends what is held.
-    ///
-    /// Of this project.
-    pub fn send<W: Write>(&mut self, writer: &mut W)
+    pub(crate) fn send<W: Write>(&mut self, writer: &mut W)
         ensures sends { GrowsBy (W.contents writer.old) self.old (W.contents writer.new) self.new [] }
         ensures empty { self.new.bytes ≡ [] }
     {
@@ -68,10 +64,8 @@ impl Held {
     }
 
     /// Sends a byte, or holds it.
-    ///
-    /// Of this project.
     #[inline(always)]
-    pub fn push<W: Write>(&mut self, writer: &mut W, byte: u8)
+    pub(crate) fn push<W: Write>(&mut self, writer: &mut W, byte: u8)
         ensures { GrowsBy (W.contents writer.old) self.old (W.contents writer.new) self.new (byte ∷ []) }
     {
         if self.bytes.len() == self.bytes.capacity() {
@@ -82,10 +76,8 @@ impl Held {
     }
 
     /// Holds bytes, or sends them after what is held, if there is no room.
-    ///
-    /// Of this project.
     #[inline(always)]
-    pub fn write<W: Write>(&mut self, writer: &mut W, bytes: &[u8])
+    pub(crate) fn write<W: Write>(&mut self, writer: &mut W, bytes: &[u8])
         ensures { GrowsBy (W.contents writer.old) self.old (W.contents writer.new) self.new bytes.now }
     {
         if bytes.len() > self.bytes.capacity() - self.bytes.len() {
@@ -94,6 +86,29 @@ impl Held {
         }
         // There is room, so this asks for no memory.
         let _ = self.bytes.extend_from_slice(bytes);
+    }
+
+    /// Holds a byte and bytes behind it, or sends them after what is held, if there is no room.
+    #[inline(always)]
+    pub(crate) fn write_behind<W: Write>(&mut self, writer: &mut W, byte: u8, bytes: &[u8])
+        ensures { GrowsBy (W.contents writer.old) self.old (W.contents writer.new) self.new (byte ∷ bytes.now) }
+    {
+        if bytes.len() >= self.bytes.capacity() - self.bytes.len() {
+            self.send_both_after(writer, byte, bytes);
+            return;
+        }
+        // Room is asked for once.
+        self.bytes.push_reserved(byte);
+        let _ = self.bytes.extend_from_slice(bytes);
+    }
+
+    /// Sends a byte and bytes behind it after what is held.
+    #[inline(never)]
+    fn send_both_after<W: Write>(&mut self, writer: &mut W, byte: u8, bytes: &[u8])
+        ensures { GrowsBy (W.contents writer.old) self.old (W.contents writer.new) self.new (byte ∷ bytes.now) }
+    {
+        self.send_after(writer, &[byte]);
+        self.send_after(writer, bytes);
     }
 
     /// Sends bytes after what is held.
@@ -108,10 +123,8 @@ impl Held {
     }
 
     /// Sends a byte many times, or holds it as often.
-    ///
-    /// Of this project.
     #[inline(always)]
-    pub fn repeat<W: Write>(&mut self, writer: &mut W, byte: u8, count: usize)
+    pub(crate) fn repeat<W: Write>(&mut self, writer: &mut W, byte: u8, count: usize)
         ensures { GrowsBy (W.contents writer.old) self.old (W.contents writer.new) self.new (replicate count byte) }
     {
         if count == 0 {

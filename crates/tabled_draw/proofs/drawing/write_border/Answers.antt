@@ -1,5 +1,5 @@
 use Rattle.tabled_draw.proofs.Common.{[], ap, bytes_in, cond-true, get_or, is_drawn, length, sym, true, ◌∙◌, ◌≡◌}
-use Rattle.tabled_draw.proofs.Pens.{draws-as}
+use Rattle.tabled_held.proofs.Pens.{draws-as}
 use Rattle.tabled_draw.proofs.Unmerged.{left-unmerged, unmerged-is}
 use Rattle.tabled_draw.specs.Unmerged.{unmerged_line}
 use Rattle.tabled_draw.proofs.drawing.write_border.Goals as goal

@@ -1,6 +1,6 @@
 use Rattle.tabled_draw.proofs.Common.{None, [], ap, ap₂, arith, bytes_in, column, each, edge, false, get_or, is_drawn, left_if, length, stretch, sym, ◌+◌, ◌<◌, ◌∙◌, ◌≡◌, size_if}
 use Rattle.tabled_draw.proofs.Each.{changed-at, each-more}
-use Rattle.tabled_draw.proofs.Pens.{draws-as, draws-then}
+use Rattle.tabled_held.proofs.Pens.{draws-as, draws-then}
 use Rattle.tabled_draw.specs.Lines.{drawn_line}
 use Rattle.tabled_draw.proofs.lines.write_border_line.Goals as goal
 

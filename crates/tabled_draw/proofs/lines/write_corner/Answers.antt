@@ -1,6 +1,6 @@
 use Rattle.tabled_draw.proofs.Common.{None, Option, Some, [], ap, arms, corner_if, false, marked, refl, sym, ℕ, ◌∙◌, ◌≡◌}
 use Rattle.tabled_draw.proofs.Arms.{marked-corner, same-arms}
-use Rattle.tabled_draw.proofs.Pens.{draws-as, draws-none}
+use Rattle.tabled_held.proofs.Pens.{draws-as, draws-none}
 use Rattle.tabled_draw.proofs.lines.write_corner.Goals as goal
 
 -- nothing is marked where the line isn't drawn

@@ -1,6 +1,6 @@
 use Rattle.tabled_draw.proofs.Common.{[], ap, bytes_in, get_or, left_inside, text_inside, ◌∙◌, ◌≡◌}
 use Rattle.tabled_draw.proofs.Each.{cut-set, text-in}
-use Rattle.tabled_draw.proofs.Pens.{draws-as}
+use Rattle.tabled_held.proofs.Pens.{draws-as}
 use Rattle.tabled_draw.proofs.lines.write_crossing.Goals as goal
 
 pub returns : goal.returns

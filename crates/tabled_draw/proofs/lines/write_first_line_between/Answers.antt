@@ -2,7 +2,7 @@ use Rattle.std.proofs.Common.{rules}
 use Rattle.std.proofs.lemmas.Result.{on_ok_weaker}
 use Rattle.std.specs.Io.KnownBytes.{Appends}
 use Rattle.tabled_draw.proofs.Common.{ap, encode_utf8_all, subst, ◌∙◌}
-use Rattle.tabled_draw.proofs.Pens.{written}
+use Rattle.tabled_held.proofs.Pens.{all-drawn}
 use Rattle.tabled_draw.specs.Lines.{drawn_unmerged}
 use Rattle.tabled_held.specs.Sent.{Kept}
 use Rattle.tabled_draw.proofs.lines.write_first_line_between.Goals as goal
@@ -15,4 +15,4 @@ returns g c =
     let line = encode_utf8_all (drawn_unmerged c.args.sheet.now 1) in
     on_ok_weaker c.finish-written.result.1
     (λ all. let bytes = subst (λ w. Appends (contents w) (contents c.finish-written.result.0.now) line) c.new-pen.ensures.unchanged all in search rules)
-    (written c.finish-written.result.1 (ap (λ (held : Kept). held.bytes) c.new-pen.ensures.held ∙ c.requires) c.write_unmerged_line.ensures.draws done)
+    (all-drawn c.finish-written.result.1 (ap (λ (held : Kept). held.bytes) c.new-pen.ensures.held ∙ c.requires) c.write_unmerged_line.ensures.draws done)

@@ -1,5 +1,5 @@
 use Rattle.tabled_draw.proofs.Common.{List, [], ap, arith, encode_utf8_all, length, sym, ℕ, ◌==◌, ◌∙◌, ◌≡◌, ◌≢◌, false≢true}
-use Rattle.tabled_draw.proofs.Pens.{draws-bytes}
+use Rattle.tabled_held.proofs.Pens.{draws-bytes}
 use Rattle.tabled_draw.proofs.Unmerged.{between-is}
 use Rattle.tabled_draw.specs.Unmerged.{unmerged_line}
 use Rattle.tabled_draw.proofs.lines.write_known_line.Goals as goal

@@ -1,7 +1,7 @@
 use Rattle.tabled_draw.proofs.Common.{None, [], ap, ap₂, arith, bytes_in, cond-false, differ, each, edge, get_or, is_drawn, left_inside, length, length-set, level, stretch, sym, text_inside, true, ◌+◌, ◌<◌, ◌∙◌, ◌≡◌, size_if}
 use Rattle.tabled_draw.proofs.Arms.{differ-self}
 use Rattle.tabled_draw.proofs.Each.{changed-more, each-more, text-in}
-use Rattle.tabled_draw.proofs.Pens.{draws-as, draws-then}
+use Rattle.tabled_held.proofs.Pens.{draws-as, draws-then}
 use Rattle.tabled_draw.specs.Lines.{drawn_line}
 use Rattle.tabled_draw.proofs.lines.write_row_line.Goals as goal
 

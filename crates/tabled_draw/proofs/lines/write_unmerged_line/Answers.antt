@@ -2,7 +2,7 @@ use Rattle.tabled_draw.proofs.Common.{ap, ap₂, arith, corner_if, each, false, 
 use Rattle.std.proofs.Common.{le-ltb}
 use Rattle.tabled_draw.proofs.Arms.{same-arms}
 use Rattle.tabled_draw.proofs.Each.{each-more}
-use Rattle.tabled_draw.proofs.Pens.{draws-as, draws-none, draws-then}
+use Rattle.tabled_held.proofs.Pens.{draws-as, draws-none, draws-then}
 use Rattle.tabled_draw.specs.Unmerged.{unmerged_line}
 use Rattle.tabled_draw.proofs.lines.write_unmerged_line.Goals as goal
 

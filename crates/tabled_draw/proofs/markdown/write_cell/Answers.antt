@@ -1,6 +1,7 @@
 use Rattle.std.specs.Prelude.{chars}
 use Rattle.tabled_draw.proofs.Common.{Draws, ap, refl, sym, ◌-◌, ◌∙◌}
-use Rattle.tabled_draw.proofs.Pens.{draws-aligned, draws-bytes}
+use Rattle.tabled_draw.proofs.Pens.{draws-aligned}
+use Rattle.tabled_held.proofs.Pens.{draws-bytes}
 use Rattle.std.proofs.lemmas.Str.{encodes-chars}
 use Rattle.tabled_draw.proofs.markdown.write_cell.Goals as goal
 

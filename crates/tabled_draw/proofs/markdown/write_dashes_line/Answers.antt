@@ -1,7 +1,7 @@
 use Rattle.tabled_draw.proofs.Common.{alignment_in, ap, arith, each, get_or, length, sym, ℕ, ◌++◌, ◌∙◌, ◌∷◌, ◌≡◌}
 use Rattle.tabled_draw.proofs.Each.{each-more}
 use Rattle.tabled_draw.proofs.MarkdownLines.{line-ended}
-use Rattle.tabled_draw.proofs.Pens.{draws-as, draws-then}
+use Rattle.tabled_held.proofs.Pens.{draws-as, draws-then}
 use Rattle.tabled_draw.specs.Markdown.{dashes}
 use Rattle.tabled_draw.proofs.markdown.write_dashes_line.Goals as goal
 

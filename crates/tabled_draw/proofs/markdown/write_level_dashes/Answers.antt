@@ -1,5 +1,5 @@
 use Rattle.tabled_draw.proofs.Common.{ap, arith, replicate, replicate-append-replicate, ◌≡◌}
-use Rattle.tabled_draw.proofs.Pens.{draws-as, draws-then}
+use Rattle.tabled_held.proofs.Pens.{draws-as, draws-then}
 use Rattle.tabled_draw.proofs.markdown.write_level_dashes.Goals as goal
 
 pub loop-preserved : goal.loop-preserved

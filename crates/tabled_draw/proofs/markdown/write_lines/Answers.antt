@@ -1,6 +1,6 @@
 use Rattle.tabled_draw.proofs.Common.{Draws, [], ap, arith, each, get_or, length, map, subst, sym, with_newlines, ◌++◌, ◌+◌, ◌<◌, ◌∙◌, ◌∷◌}
 use Rattle.tabled_draw.proofs.MarkdownLines.{first-lines, later-lines, lines-left, lines-more, row-at, wide-at}
-use Rattle.tabled_draw.proofs.Pens.{draws-as, draws-failed, draws-then}
+use Rattle.tabled_held.proofs.Pens.{draws-as, draws-failed, draws-then}
 use Rattle.tabled_draw.specs.Markdown.{characters, dashes_line, lines_at, row_line, rows_of_characters}
 use Rattle.tabled_draw.proofs.markdown.write_lines.Goals as goal
 use Rattle.tabled_draw.proofs.markdown.write_lines.Goals.{then-i-eq0, else-i-eq0}

@@ -2,7 +2,7 @@ use Rattle.std.specs.Prelude.{chars}
 use Rattle.tabled_draw.proofs.Common.{[], aligned, alignment_in, ap, ap₂, arith, each, get_or, length, map, sym, ℕ, ◌++◌, ◌∙◌, ◌∷◌, ◌≡◌}
 use Rattle.tabled_draw.proofs.Each.{each-more}
 use Rattle.tabled_draw.proofs.MarkdownLines.{characters-at, line-ended}
-use Rattle.tabled_draw.proofs.Pens.{draws-as, draws-then}
+use Rattle.tabled_held.proofs.Pens.{draws-as, draws-then}
 use Rattle.tabled_draw.specs.Markdown.{characters}
 use Rattle.tabled_draw.proofs.markdown.write_row.Goals as goal
 

@@ -2,8 +2,10 @@
 use Rattle.std.proofs.Math.Nat.{mul-div_cancel_left, suc-mul}
 use Rattle.std.proofs.Math.Seq.{take-append_seam}
 use Rattle.std.proofs.lemmas.Nat.{div-add-mod'}
-use Rattle.tabled_draw.proofs.Common.{ap, ap₂, arith, encode_utf8, encode_utf8_all, encodes-append, length, length-append, replicate, replicate-append-replicate, suc, sym, take, zero, ℕ, ◌%◌, ◌*◌, ◌++◌, ◌+◌, ◌-◌, ◌/◌, ◌<◌, ◌∙◌, ◌≡◌, lit<}
-use Rattle.tabled_draw.specs.Runs.{run_of}
+use Rattle.std.proofs.Common.{◌%◌, ◌*◌, ◌++◌, ◌+◌, ◌-◌, ◌/◌, ◌<◌, ◌∙◌, ◌≡◌, ap, ap₂, arith, encode_utf8, encode_utf8_all, length, length-append, lit<, replicate, suc, sym, take, zero, ℕ}
+use Rattle.std.proofs.lemmas.List.{replicate-append-replicate}
+use Rattle.std.proofs.lemmas.Str.{encodes-append}
+use Rattle.tabled_held.specs.Runs.{run_of}
 
 encodes-long : (n c : ℕ) → length (encode_utf8_all (replicate n c)) ≡ n * length (encode_utf8 c)
 encodes-long zero c = omega arith

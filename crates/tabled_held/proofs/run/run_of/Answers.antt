@@ -1,7 +1,7 @@
-use Rattle.tabled_draw.proofs.Common.{ap₂, arith, ◌++◌, ◌∙◌}
-use Rattle.tabled_draw.proofs.Runs.{run-whole}
-use Rattle.tabled_draw.proofs.Pens.{encodes-more}
-use Rattle.tabled_draw.proofs.pen.run_of.Goals as goal
+use Rattle.std.proofs.Common.{◌++◌, ◌∙◌, ap₂, arith}
+use Rattle.tabled_held.proofs.Runs.{run-whole}
+use Rattle.tabled_held.proofs.Pens.{encodes-more}
+use Rattle.tabled_held.proofs.run.run_of.Goals as goal
 
 pub loop-preserved : goal.loop-preserved
 loop-preserved c =

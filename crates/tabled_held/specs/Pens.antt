@@ -3,7 +3,7 @@ use Rattle.std.specs.Prelude.{◌≡◌, ℕ, List, [], Option, Result, encode_u
 use Rattle.std.specs.Borrow.{MutBor}
 use Rattle.std.specs.Result.{result_err}
 use Rattle.std.specs.declared.io.Error.{Error}
-use Rattle.tabled_draw.specs.declared.pen.Pen.{Pen}
+use Rattle.tabled_held.specs.declared.pen.Pen.{Pen}
 use Rattle.tabled_held.specs.Sent.{GrowsBy, Kept}
 
 -- bytes are sent to a pen's writer, or held for it, unless the writer has failed
