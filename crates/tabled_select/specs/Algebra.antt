@@ -1,7 +1,8 @@
 -- Selections as lists of places, and their combinations.
-use Rattle.std.specs.Prelude.{ℕ, Bool, false, true, ◌↔◌, List, [], ◌∷◌, ◌++◌, map, not}
+use Rattle.std.specs.Prelude.{◌≡◌, ℕ, Bool, false, true, ◌↔◌, List, [], ◌∷◌, ◌++◌, map, not}
 use Rattle.std.specs.List.{filter, flat_map, list_any}
 use Rattle.tabled_grid.specs.Entity.{inside, same_place}
+use Rattle.tabled_grid.specs.Grid.{Grid}
 use Rattle.tabled_grid.specs.declared.config.position.Position.{Position}
 use Rattle.tabled_grid.specs.declared.config.entity.Entity.{Entity}
 use Rattle.tabled_grid.specs.declared.config.entity.Entity.TheVariants.{Cell, Global}
@@ -48,6 +49,10 @@ inversion_of a rows columns = difference_of (inside Global rows columns) a
 abbrev pub named_without : List Entity → List Entity → ℕ → ℕ → List Position
 named_without a b rows columns = difference_of (flat a rows columns) (flat b rows columns)
 
+-- the places that either names, each once
+abbrev pub named_by_either : List Entity → List Entity → ℕ → ℕ → List Position
+named_by_either a b rows columns = union_of (flat a rows columns) (flat b rows columns)
+
 -- the places that both name
 abbrev pub named_by_both : List Entity → List Entity → ℕ → ℕ → List Position
 named_by_both a b rows columns = intersection_of (flat a rows columns) (flat b rows columns)
@@ -55,6 +60,10 @@ named_by_both a b rows columns = intersection_of (flat a rows columns) (flat b r
 -- the cells of a table that entities don't name
 abbrev pub others : List Entity → ℕ → ℕ → List Entity
 others a rows columns = cells_of (inversion_of (flat a rows columns) rows columns)
+
+-- entities are listed that name one place each: those that two lists name together
+abbrev pub ListsOfTwo : {A : Type 0} → (Grid A → List Entity → Type 0) → (Grid A → List Entity → Type 0) → (List Entity → List Entity → ℕ → ℕ → List Position) → Grid A → List Entity → Type 0
+ListsOfTwo first second named g entities = (a b : List Entity) × first g a × second g b × (entities ≡ cells_of (named a b g.rows g.columns))
 
 -- two relations hold of the same lists of entities
 abbrev pub ListAlike : {O G : Type 0} → (O → G → List Entity → Type 0) → (O → G → List Entity → Type 0) → O → G → Type 0

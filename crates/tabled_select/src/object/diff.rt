@@ -1,8 +1,6 @@
 //! The cells of one object without those of another.
 
-ghost use Rattle.std.specs.Prelude.{◌≡◌, List};
-ghost use Rattle.tabled_grid.specs.declared.config.entity.Entity.{Entity};
-ghost use Rattle.tabled_select.specs.Algebra.{cells_of, named_without};
+ghost use Rattle.tabled_select.specs.Algebra.{ListsOfTwo, named_without};
 
 use crate::object::sieve::SieveIter;
 use crate::object::{Object, entities};
@@ -41,7 +39,7 @@ where
 {
     type Iter = DiffIter<L::Iter>;
 
-    ghost lists = { λ s g entities. (a b : List Entity) × L.lists s.0 g a × R.lists s.1 g b × (entities ≡ cells_of (named_without a b g.rows g.columns)) };
+    ghost lists = { λ s. ListsOfTwo (L.lists s.0) (R.lists s.1) named_without };
 
     ghost can_list = { λ s. L.can_list s.0 × R.can_list s.1 };
 

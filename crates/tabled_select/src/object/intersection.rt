@@ -1,8 +1,6 @@
 //! The cells that two objects share.
 
-ghost use Rattle.std.specs.Prelude.{◌≡◌, List};
-ghost use Rattle.tabled_grid.specs.declared.config.entity.Entity.{Entity};
-ghost use Rattle.tabled_select.specs.Algebra.{cells_of, named_by_both};
+ghost use Rattle.tabled_select.specs.Algebra.{ListsOfTwo, named_by_both};
 
 use crate::object::sieve::SieveIter;
 use crate::object::{Object, entities};
@@ -41,7 +39,7 @@ where
 {
     type Iter = IntersectIter<L::Iter>;
 
-    ghost lists = { λ s g entities. (a b : List Entity) × L.lists s.0 g a × R.lists s.1 g b × (entities ≡ cells_of (named_by_both a b g.rows g.columns)) };
+    ghost lists = { λ s. ListsOfTwo (L.lists s.0) (R.lists s.1) named_by_both };
 
     ghost can_list = { λ s. L.can_list s.0 × R.can_list s.1 };
 

@@ -1,11 +1,9 @@
 //! The cells of two objects.
 
-ghost use Rattle.std.specs.Prelude.{◌≡◌, List};
-ghost use Rattle.tabled_grid.specs.declared.config.entity.Entity.{Entity};
-ghost use Rattle.tabled_select.specs.Algebra.{cells_of, flat, union_of};
+ghost use Rattle.tabled_select.specs.Algebra.{ListsOfTwo, named_by_either};
 
-use crate::object::place_set::PlaceSet;
 use crate::object::named_places::{NamedPlaces, count_named};
+use crate::object::place_set::PlaceSet;
 use crate::object::{Object, entities};
 use std::alloc::{AllocError, Global};
 use std::marker::{Model, PhantomData};
@@ -41,7 +39,7 @@ where
 {
     type Iter = UnionIter;
 
-    ghost lists = { λ s g entities. (a b : List Entity) × L.lists s.0 g a × R.lists s.1 g b × (entities ≡ cells_of (union_of (flat a g.rows g.columns) (flat b g.rows g.columns))) };
+    ghost lists = { λ s. ListsOfTwo (L.lists s.0) (R.lists s.1) named_by_either };
 
     ghost can_list = { λ s. L.can_list s.0 × R.can_list s.1 };
 
