@@ -38,6 +38,10 @@ with_record b i texts =
     let columns = max b.columns (length texts) in
     record b { columns = columns; rows = with_row_at columns b.empty b.rows i (padded_to columns b.empty texts) }
 
+-- the same after all records
+abbrev pub with_last_record : Builder → List (List ℕ) → Builder
+with_last_record b texts = with_record b (length b.rows) texts
+
 -- each row with its item inserted at j
 abbrev pub with_items : {A : Type 0} → ℕ → List (List A) → List A → List (List A)
 with_items {A} j rows items = map (λ (p : List A × A). insert p.0 j p.1) (zip rows items)

@@ -1,11 +1,13 @@
 -- A table with an index: a header above its body, and a text beside each row of the body.
-use Rattle.std.specs.Prelude.{◌≡◌, ◌+◌, ℕ, Bool, true, false, not, ◌&&◌, if◌then◌else◌, List, [], ◌∷◌, length, map, Option, None, Some, slice_get, nat_lt}
+use Rattle.std.specs.Prelude.{◌≡◌, ◌+◌, ℕ, Bool, true, false, not, ◌&&◌, if◌then◌else◌, List, [], ◌∷◌, length, map, Option, None, Some, String, option_map, slice_get, nat_lt}
+use Rattle.std.specs.Global.{Global, Vec}
 use Rattle.std.specs.List.{range_with_len, remove}
 use Rattle.std.specs.Fmt.{decimal}
+use Rattle.std.specs.String.{string_bytes}
 use Rattle.tabled_grid.specs.Bulk.{transposed_rows}
 use Rattle.tabled_grid.specs.Evenness.{AreWide}
 use Rattle.tabled_grid.specs.Grid.{width_of}
-use Rattle.tabled_table.specs.Builder.{Builder, column_of, padded_to, with_items}
+use Rattle.tabled_table.specs.Builder.{Builder, column_of, padded_to, row_texts, with_items}
 
 -- the header, the index, the body, the index's name, and whether the index is shown and the table transposed
 pub record Indexed : Type 0 where
@@ -15,6 +17,10 @@ pub record Indexed : Type 0 where
   pub name : Option (List ℕ)
   pub shown : Bool
   pub is_transposed : Bool
+
+-- these parts of texts that vectors hold
+abbrev pub parts_of : List (String Global) → List (String Global) → List (Vec (String Global)) → Option (String Global) → Bool → Bool → Indexed
+parts_of header index body name shown is_transposed = record { header = map string_bytes header; index = map string_bytes index; body = row_texts body; name = option_map string_bytes name; shown = shown; is_transposed = is_transposed }
 
 -- the body has a row for each text of the index, and in it a text for each one of the header
 pub record IsIndexed (x : Indexed) : Type 0 where

@@ -24,16 +24,13 @@ pub(super) struct Indexed {
 }
 
 impl Model for Indexed {
-    ghost use Rattle.std.specs.Prelude.{map, option_map};
-    ghost use Rattle.std.specs.String.{string_bytes};
-    ghost use Rattle.tabled_table.specs.Builder.{row_texts};
-    ghost use Rattle.tabled_table.specs.Index.{Indexed, IsIndexed};
+    ghost use Rattle.tabled_table.specs.Index.{Indexed, IsIndexed, parts_of};
 
     ghost Value = { Indexed };
 
-    ghost view = { λ a. record { header = map string_bytes a.header.items; index = map string_bytes a.index.items; body = row_texts a.body.items; name = option_map string_bytes a.name; shown = a.is_shown; is_transposed = a.is_transposed } };
+    ghost view = { λ a. parts_of a.header.items a.index.items a.body.items a.name a.is_shown a.is_transposed };
 
-    ghost invariant = { λ a. IsIndexed (record { header = map string_bytes a.header.items; index = map string_bytes a.index.items; body = row_texts a.body.items; name = option_map string_bytes a.name; shown = a.is_shown; is_transposed = a.is_transposed }) };
+    ghost invariant = { λ a. IsIndexed (parts_of a.header.items a.index.items a.body.items a.name a.is_shown a.is_transposed) };
 }
 
 impl Indexed {

@@ -34,7 +34,7 @@ impl Builder {
     ghost use Rattle.std.specs.Prelude.{◌≡◌, ◌<◌, ◌≤◌, [], IfOk, IsOk, OnOk, OnErr, length};
     ghost use Rattle.std.specs.String.{string_bytes};
     ghost use Rattle.tabled_grid.specs.Evenness.{AreWide};
-    ghost use Rattle.tabled_table.specs.Builder.{builder_with_column, builder_without_column, cleaned, cleared, from_uneven, row_texts, table_of, with_last_column, with_record, without_record};
+    ghost use Rattle.tabled_table.specs.Builder.{builder_with_column, builder_without_column, cleaned, cleared, from_uneven, row_texts, table_of, with_last_column, with_last_record, with_record, without_record};
     ghost use Rattle.tabled_grid.specs.Grid.{map_grid, width_of};
     ghost use Rattle.tabled_table.specs.Index.{indexed_rows};
     ghost use Rattle.tabled_table.specs.Given.{EachGaveTexts, EachMayBeAsked, GaveTexts, MayBeAsked};
@@ -247,7 +247,7 @@ impl Builder {
     where
         R: IntoIterator<Item = String>,
         requires asked { MayBeAsked R.IntoIterator R.IntoIter.Iterator texts }
-        ensures ok { OnOk result (GaveTexts R.IntoIterator R.IntoIter.Iterator texts (λ given. self.new ≡ with_record self.old (length self.old.rows) given)) }
+        ensures ok { OnOk result (GaveTexts R.IntoIterator R.IntoIter.Iterator texts (λ given. self.new ≡ with_last_record self.old given)) }
         ensures err { OnErr result (self.new ≡ self.old) }
     {
         let end = self.rows.len();
@@ -263,7 +263,7 @@ impl Builder {
     where
         R: IntoIterator<Item = String>,
         requires asked { MayBeAsked R.IntoIterator R.IntoIter.Iterator texts }
-        ensures ok { OnOk result (GaveTexts R.IntoIterator R.IntoIter.Iterator texts (λ given. self.new ≡ with_record self.old (length self.old.rows) given)) }
+        ensures ok { OnOk result (GaveTexts R.IntoIterator R.IntoIter.Iterator texts (λ given. self.new ≡ with_last_record self.old given)) }
         ensures err { OnErr result (self.new ≡ self.old) }
     {
         self.push_record(alloc, texts)
