@@ -1,5 +1,6 @@
 -- The picture of a table: its lines, each a list of characters.
-use Rattle.std.specs.Prelude.{◌≡◌, ◌⊎◌, ◌+◌, ◌-◌, ◌==◌, ◌||◌, ◌++◌, if◌then◌else◌, ℕ, List, [], ◌∷◌, None, Option, Some, encode_utf8_all, replicate, slice_index_or}
+use Rattle.std.specs.Prelude.{◌≡◌, ◌⊎◌, ◌+◌, ◌-◌, ◌==◌, ◌||◌, ◌++◌, if◌then◌else◌, ℕ, List, [], ◌∷◌, None, Option, Some, encode_utf8_all, replicate, slice_index_or, IfErr, OnOk, Result}
+use Rattle.std.specs.Io.KnownBytes.{Appends}
 use Rattle.std.specs.IoError.{error_kind}
 use Rattle.std.specs.List.{flat_map}
 use Rattle.std.specs.declared.io.Error.{Error}
@@ -130,7 +131,12 @@ drawn g m = drawn_with ASCII [] g m
 abbrev pub drawn_in : Look → Grid (List ℕ) → SpanMap → List ℕ
 drawn_in look g m = drawn_with look.style look.alignments.now g m
 
--- what a drawing that fails leaves: memory ran out and nothing was written, or the writer failed and got the first of these
--- bytes, and not all
-abbrev pub LeavesSome : Error → Option (List ℕ) → Option (List ℕ) → List ℕ → Type 0
-LeavesSome error old new bytes = ((error_kind error ≡ OutOfMemory) × (new ≡ old)) ⊎ IsCutShort old new bytes
+-- where a drawing went well, its writer got these bytes
+abbrev pub IsDrawn : {W T : Type 0} → (W → Option (List ℕ)) → Result T Error → W → W → List ℕ → Type 0
+IsDrawn contents result old new bytes = OnOk result (Appends (contents old) (contents new) bytes)
+
+-- where it failed, memory ran out and nothing was written, or the writer failed and got the first of these bytes, and not
+-- all
+abbrev pub LeavesSome : {W T : Type 0} → (W → Option (List ℕ)) → Result T Error → W → W → List ℕ → Type 0
+LeavesSome contents result old new bytes =
+    IfErr result (λ error. ((error_kind error ≡ OutOfMemory) × (contents new ≡ contents old)) ⊎ IsCutShort (contents old) (contents new) bytes)

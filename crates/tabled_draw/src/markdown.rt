@@ -1,14 +1,14 @@
 //! Tables as Markdown.
 
-ghost use Rattle.std.specs.Prelude.{◌≡◌, ◌++◌, ◌∷◌, [], IfErr, IfOk, OnErr, OnOk, chars, length, map, replicate};
+ghost use Rattle.std.specs.Prelude.{◌≡◌, ◌++◌, ◌∷◌, [], IfOk, OnErr, OnOk, chars, length, map, replicate};
 ghost use Rattle.std.specs.Io.KnownBytes.{Appends};
 ghost use Rattle.tabled_draw.specs.Alignments.{aligned};
 ghost use Rattle.tabled_draw.specs.Each.{each};
 ghost use Rattle.tabled_draw.specs.Markdown.{characters, dashes, dashes_line, first_dash, last_dash, lines_at, markdown, row_line, rows_of_characters};
-ghost use Rattle.tabled_held.specs.Pens.{Draws};
-ghost use Rattle.tabled_draw.specs.Picture.{LeavesSome, with_newlines};
+ghost use Rattle.tabled_draw.specs.Picture.{IsDrawn, LeavesSome, with_newlines};
 ghost use Rattle.tabled_grid.specs.Evenness.{AreWide};
 ghost use Rattle.tabled_grid.specs.Grid.{map_grid, map_items};
+ghost use Rattle.tabled_held.specs.Pens.{Draws};
 ghost use Rattle.tabled_held.specs.Sent.{IsCutShort};
 
 use crate::alignment::{Alignment, alignment_in, indent};
@@ -42,10 +42,8 @@ where
     R: Records + ExactRecords + PeekableRecords,
     R::Cell: CellText,
     requires well { R.is_well_formed records.now }
-    ensures drawn { OnOk result (Appends (W.contents writer.old) (W.contents writer.new)
-        (markdown alignments.now (map_grid R.Cell.text_of (R.grid records.now)) cfg.now)) }
-    ensures failed { IfErr result (λ error. LeavesSome error (W.contents writer.old) (W.contents writer.new)
-        (markdown alignments.now (map_grid R.Cell.text_of (R.grid records.now)) cfg.now)) }
+    ensures drawn { IsDrawn W.contents result writer.old writer.new (markdown alignments.now (map_grid R.Cell.text_of (R.grid records.now)) cfg.now) }
+    ensures failed { LeavesSome W.contents result writer.old writer.new (markdown alignments.now (map_grid R.Cell.text_of (R.grid records.now)) cfg.now) }
 {
     let markdown = Markdown::new(alloc, records, cfg, alignments)?;
     markdown.write(writer)

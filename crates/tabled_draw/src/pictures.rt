@@ -1,9 +1,8 @@
 //! The picture of a table, written or as a text.
 
-ghost use Rattle.std.specs.Prelude.{◌≡◌, IfErr, IfOk, OnOk};
-ghost use Rattle.std.specs.Io.KnownBytes.{Appends};
+ghost use Rattle.std.specs.Prelude.{◌≡◌, IfOk};
 ghost use Rattle.std.specs.String.{string_bytes};
-ghost use Rattle.tabled_draw.specs.Picture.{LeavesSome, drawn, drawn_in};
+ghost use Rattle.tabled_draw.specs.Picture.{IsDrawn, LeavesSome, drawn, drawn_in};
 ghost use Rattle.tabled_grid.specs.Grid.{map_grid};
 
 use crate::drawing::Drawing;
@@ -28,9 +27,8 @@ where
     R: Records + ExactRecords + PeekableRecords,
     R::Cell: CellText,
     requires well { R.is_well_formed records.now }
-    ensures drawn { OnOk result (Appends (W.contents writer.old) (W.contents writer.new) (drawn (map_grid R.Cell.text_of (R.grid records.now)) cfg.now)) }
-    ensures failed { IfErr result (λ error. LeavesSome error (W.contents writer.old) (W.contents writer.new)
-        (drawn (map_grid R.Cell.text_of (R.grid records.now)) cfg.now)) }
+    ensures drawn { IsDrawn W.contents result writer.old writer.new (drawn (map_grid R.Cell.text_of (R.grid records.now)) cfg.now) }
+    ensures failed { LeavesSome W.contents result writer.old writer.new (drawn (map_grid R.Cell.text_of (R.grid records.now)) cfg.now) }
 {
     let drawing = Drawing::new(alloc, records, cfg)?;
     drawing.write(writer)
@@ -51,10 +49,8 @@ where
     R: Records + ExactRecords + PeekableRecords,
     R::Cell: CellText,
     requires well { R.is_well_formed records.now }
-    ensures drawn { OnOk result (Appends (W.contents writer.old) (W.contents writer.new)
-        (drawn_in look.now (map_grid R.Cell.text_of (R.grid records.now)) cfg.now)) }
-    ensures failed { IfErr result (λ error. LeavesSome error (W.contents writer.old) (W.contents writer.new)
-        (drawn_in look.now (map_grid R.Cell.text_of (R.grid records.now)) cfg.now)) }
+    ensures drawn { IsDrawn W.contents result writer.old writer.new (drawn_in look.now (map_grid R.Cell.text_of (R.grid records.now)) cfg.now) }
+    ensures failed { LeavesSome W.contents result writer.old writer.new (drawn_in look.now (map_grid R.Cell.text_of (R.grid records.now)) cfg.now) }
 {
     let drawing = Drawing::with_look(alloc, records, cfg, look)?;
     drawing.write(writer)
