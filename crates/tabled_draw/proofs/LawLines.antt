@@ -5,7 +5,7 @@ use Rattle.tabled_draw.specs.Borders.{number}
 use Rattle.tabled_draw.proofs.Arms.{differ-none, differ-self, none-one, none-parts}
 use Rattle.tabled_draw.specs.declared.alignment.Alignment.TheVariants.{Left, Center, Right}
 use Rattle.tabled_draw.proofs.Each.{each-more, split-each}
-use Rattle.tabled_draw.proofs.Owned.{LieWell, Owns, owner-both, owner-inside, owner-left, owner-owns, owner-some}
+use Rattle.tabled_draw.proofs.Owned.{LieWell, Owns, owner-both, owner-exists, owner-left, owner-owns, owner-some}
 use Rattle.tabled_draw.proofs.Shares.{room-end}
 use Rattle.tabled_draw.proofs.Sizes.{line-least, room-enough, start-next}
 use Rattle.tabled_draw.proofs.Widths.{IsPlain, all-marks, columns-after_blanks, columns-append, columns-blanks, columns-nil, columns-replicate, plain-after_blanks, plain-append, plain-blanks, plain-marks, plain-nil}
@@ -116,15 +116,9 @@ module _ (plan : Plan) (aligns : List Alignment) (fine : IsFine plan.style) (wel
     -- in a column of the table one of the two places has an owner
     some-one : (k : ℕ) → 0 < k → k ≤ plan.grid.columns → up k ≡ None → down k ≡ None → ⊥
     some-one k low high none none' = elim (cases_lt 0 u) [
-      | inl less ↦ inside u less line.high none
-      | inr first ↦ elim line.next [ inl same ↦ omega (arith, first, same, line.low) | inr more ↦ inside d line.low (omega (arith, first, more, line.some)) none' ]
+      | inl less ↦ owner-exists plan.merged u k less line.high low high none
+      | inr first ↦ elim line.next [ inl same ↦ omega (arith, first, same, line.low) | inr more ↦ owner-exists plan.merged d k line.low (omega (arith, first, more, line.some)) low high none' ]
     ]
-      where
-        inside : (i : ℕ) → 0 < i → i ≤ plan.grid.rows → owner_at plan i k ≡ None → ⊥
-        inside i some least is =
-            let row : i ≡ i - 1 + 1 = omega (arith, some) in
-            let col : k ≡ k - 1 + 1 = omega (arith, low) in
-            none-some _ (sym is ∙ ap₂ (owner_at plan) row col ∙ owner-inside plan.grid.rows plan.grid.columns plan.merged (i - 1) (k - 1) (omega (arith, some, least)) (omega (arith, low, high)))
 
     joint-from : (j : ℕ) (o : Rectangle) → up j ≡ Some o → down j ≡ Some o → up (j + 1) ≡ Some o → down (j + 1) ≡ Some o → joint j ≡ true
     joint-from j o e f e' f' = none-one (up j) (up (j + 1)) (down j) (down (j + 1)) o e e' f f'
@@ -257,8 +251,8 @@ module _ (plan : Plan) (aligns : List Alignment) (fine : IsFine plan.style) (wel
       reached : (j : ℕ) → j ≤ plan.grid.columns → Reached j (text_width (each j part))
       reached zero h = edge (not-joint 0 (omega arith) wide (λ o e. absurd (none-some o (sym (owner-left plan.grid.rows plan.grid.columns plan.merged u) ∙ e)))) columns-nil
       reached (suc j) h =
-          let go : Reached j (text_width (each j part)) = reached j (omega arith) in
-          let next_one : Reached (j + 1) (text_width (each j part) + text_width (part j)) = more j (text_width (each j part)) (omega arith) go in
+          let so_far : Reached j (text_width (each j part)) = reached j (omega arith) in
+          let next_one : Reached (j + 1) (text_width (each j part) + text_width (part j)) = more j (text_width (each j part)) (omega arith) so_far in
           subst (λ k. Reached k (text_width (each j part ++ part j))) (add-one j) (subst (λ w. Reached (j + 1) w) (sym (columns-append (each j part) (part j) (part-plain j))) next_one)
 
       -- at the right edge of the table no owner reaches over

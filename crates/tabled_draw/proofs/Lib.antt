@@ -8,9 +8,11 @@ pub mod Escapes
 pub mod Example
 pub mod Fine
 pub mod Fitting
+pub mod LawBorders
 pub mod LawLines
 pub mod LawMarkdown
 pub mod LawPicture
+pub mod LawTexts
 pub mod MarkdownCells
 pub mod MarkdownLines
 pub mod MarkdownRead

@@ -13,7 +13,7 @@ use Rattle.unicode_width.specs.Width.{Reading, added, alone, before, before_alef
 use Rattle.unicode_width.specs.declared.kind.Kind.{Kind}
 use Rattle.unicode_width.specs.declared.kind.Kind.TheVariants as kinds
 use Rattle.unicode_width.specs.declared.state.After.{After}
-use Rattle.unicode_width.specs.declared.state.After.TheVariants.{Nothing, LineFeed, EmojiModifier, RegionalIndicator, RegionalIndicators, Emoji, ZwjEmoji, KeycapZwjEmoji, IndicatorZwj, EvenIndicatorsZwj, OddIndicatorsZwj, TagEnd, TagDigit1, TagDigit2, TagDigit3, TagLetter1, TagLetter2, TagLetter3, TagLetter4, TagLetter5, TagLetter6, KiratE, KiratAi, Alef, Solidus, SolidusAlef, Lamed, ZwjLamed, Ya, ZwjYa, VowelZwjYa, Tifinagh, ZwjTifinagh, JoinerTifinagh, LisuTone, OrkhonI, ZwjOrkhonI, KhmerLetter}
+use Rattle.unicode_width.specs.declared.state.After.TheVariants.{Nothing, LineFeed, EmojiModifier, ZwjEmoji, Alef}
 use Rattle.unicode_width.specs.declared.state.Change.{Change}
 use Rattle.unicode_width.specs.declared.state.Change.TheVariants.{Same}
 use Rattle.unicode_width.specs.declared.state.State.{State}
@@ -168,44 +168,10 @@ module _ (c : ℕ) (looked : looks c ≡ neutral) (where_it_is : ((0x23FF < c) �
 
   joins-none : (a : After) → joins false a c ≡ None
   unfolding joins before_alef
-  joins-none Nothing = grind (arith, nat_tests, where_it_is)
-  joins-none LineFeed = grind (arith, nat_tests, where_it_is)
   joins-none EmojiModifier = cond-false (is_emoji_modifier_base c) _ _ no_modified ∙ cond-false (c == 0x200D) _ _ (apart 0x200D (inl (omega arith)) (λ e. omega (arith, e)))
-  joins-none RegionalIndicator = grind (arith, nat_tests, where_it_is)
-  joins-none RegionalIndicators = grind (arith, nat_tests, where_it_is)
-  joins-none Emoji = grind (arith, nat_tests, where_it_is)
   joins-none ZwjEmoji = grind (arith, nat_tests, no_emoji, where_it_is)
-  joins-none KeycapZwjEmoji = grind (arith, nat_tests, where_it_is)
-  joins-none IndicatorZwj = grind (arith, nat_tests, where_it_is)
-  joins-none EvenIndicatorsZwj = grind (arith, nat_tests, where_it_is)
-  joins-none OddIndicatorsZwj = grind (arith, nat_tests, where_it_is)
-  joins-none TagEnd = grind (arith, nat_tests, where_it_is)
-  joins-none TagDigit1 = grind (arith, nat_tests, where_it_is)
-  joins-none TagDigit2 = grind (arith, nat_tests, where_it_is)
-  joins-none TagDigit3 = grind (arith, nat_tests, where_it_is)
-  joins-none TagLetter1 = grind (arith, nat_tests, where_it_is)
-  joins-none TagLetter2 = grind (arith, nat_tests, where_it_is)
-  joins-none TagLetter3 = grind (arith, nat_tests, where_it_is)
-  joins-none TagLetter4 = grind (arith, nat_tests, where_it_is)
-  joins-none TagLetter5 = grind (arith, nat_tests, where_it_is)
-  joins-none TagLetter6 = grind (arith, nat_tests, where_it_is)
-  joins-none KiratE = grind (arith, nat_tests, where_it_is)
-  joins-none KiratAi = grind (arith, nat_tests, where_it_is)
   joins-none Alef = cond-false (is_lam c) _ _ no_lam ∙ cond-false _ _ _ (and-first ((alone false c).0 == 0) _ (ap (λ (r : ℕ × State). r.0 == 0) is_alone))
-  joins-none Solidus = grind (arith, nat_tests, where_it_is)
-  joins-none SolidusAlef = grind (arith, nat_tests, where_it_is)
-  joins-none Lamed = grind (arith, nat_tests, where_it_is)
-  joins-none ZwjLamed = grind (arith, nat_tests, where_it_is)
-  joins-none Ya = grind (arith, nat_tests, where_it_is)
-  joins-none ZwjYa = grind (arith, nat_tests, where_it_is)
-  joins-none VowelZwjYa = grind (arith, nat_tests, where_it_is)
-  joins-none Tifinagh = grind (arith, nat_tests, where_it_is)
-  joins-none ZwjTifinagh = grind (arith, nat_tests, where_it_is)
-  joins-none JoinerTifinagh = grind (arith, nat_tests, where_it_is)
-  joins-none LisuTone = grind (arith, nat_tests, where_it_is)
-  joins-none OrkhonI = grind (arith, nat_tests, where_it_is)
-  joins-none ZwjOrkhonI = grind (arith, nat_tests, where_it_is)
-  joins-none KhmerLetter = grind (arith, nat_tests, where_it_is)
+  joins-none _ = grind (arith, nat_tests, where_it_is)
 
   past-neutral : (t : ℕ) (s : State) → past_emoji false c t s ≡ (t + 1, plain)
   unfolding past_emoji in_context past_selectors
@@ -262,44 +228,8 @@ record Keeps (a : After) : Type 0 where
   joined : is_joined_emoji a ≡ true → is_line_feed a ≡ false
 
 keeps : (a : After) → Keeps a
-keeps Nothing = record { marks = λ t. (refl, refl); kept = λ t. refl; joined = λ t. refl }
 keeps LineFeed = record { marks = λ t. absurd (false≢true t); kept = λ t. absurd (false≢true t); joined = λ t. absurd (false≢true t) }
-keeps EmojiModifier = record { marks = λ t. (refl, refl); kept = λ t. refl; joined = λ t. refl }
-keeps RegionalIndicator = record { marks = λ t. (refl, refl); kept = λ t. refl; joined = λ t. refl }
-keeps RegionalIndicators = record { marks = λ t. (refl, refl); kept = λ t. refl; joined = λ t. refl }
-keeps Emoji = record { marks = λ t. (refl, refl); kept = λ t. refl; joined = λ t. refl }
-keeps ZwjEmoji = record { marks = λ t. (refl, refl); kept = λ t. refl; joined = λ t. refl }
-keeps KeycapZwjEmoji = record { marks = λ t. (refl, refl); kept = λ t. refl; joined = λ t. refl }
-keeps IndicatorZwj = record { marks = λ t. (refl, refl); kept = λ t. refl; joined = λ t. refl }
-keeps EvenIndicatorsZwj = record { marks = λ t. (refl, refl); kept = λ t. refl; joined = λ t. refl }
-keeps OddIndicatorsZwj = record { marks = λ t. (refl, refl); kept = λ t. refl; joined = λ t. refl }
-keeps TagEnd = record { marks = λ t. (refl, refl); kept = λ t. refl; joined = λ t. refl }
-keeps TagDigit1 = record { marks = λ t. (refl, refl); kept = λ t. refl; joined = λ t. refl }
-keeps TagDigit2 = record { marks = λ t. (refl, refl); kept = λ t. refl; joined = λ t. refl }
-keeps TagDigit3 = record { marks = λ t. (refl, refl); kept = λ t. refl; joined = λ t. refl }
-keeps TagLetter1 = record { marks = λ t. (refl, refl); kept = λ t. refl; joined = λ t. refl }
-keeps TagLetter2 = record { marks = λ t. (refl, refl); kept = λ t. refl; joined = λ t. refl }
-keeps TagLetter3 = record { marks = λ t. (refl, refl); kept = λ t. refl; joined = λ t. refl }
-keeps TagLetter4 = record { marks = λ t. (refl, refl); kept = λ t. refl; joined = λ t. refl }
-keeps TagLetter5 = record { marks = λ t. (refl, refl); kept = λ t. refl; joined = λ t. refl }
-keeps TagLetter6 = record { marks = λ t. (refl, refl); kept = λ t. refl; joined = λ t. refl }
-keeps KiratE = record { marks = λ t. (refl, refl); kept = λ t. refl; joined = λ t. refl }
-keeps KiratAi = record { marks = λ t. (refl, refl); kept = λ t. refl; joined = λ t. refl }
-keeps Alef = record { marks = λ t. (refl, refl); kept = λ t. refl; joined = λ t. refl }
-keeps Solidus = record { marks = λ t. (refl, refl); kept = λ t. refl; joined = λ t. refl }
-keeps SolidusAlef = record { marks = λ t. (refl, refl); kept = λ t. refl; joined = λ t. refl }
-keeps Lamed = record { marks = λ t. (refl, refl); kept = λ t. refl; joined = λ t. refl }
-keeps ZwjLamed = record { marks = λ t. (refl, refl); kept = λ t. refl; joined = λ t. refl }
-keeps Ya = record { marks = λ t. (refl, refl); kept = λ t. refl; joined = λ t. refl }
-keeps ZwjYa = record { marks = λ t. (refl, refl); kept = λ t. refl; joined = λ t. refl }
-keeps VowelZwjYa = record { marks = λ t. (refl, refl); kept = λ t. refl; joined = λ t. refl }
-keeps Tifinagh = record { marks = λ t. (refl, refl); kept = λ t. refl; joined = λ t. refl }
-keeps ZwjTifinagh = record { marks = λ t. (refl, refl); kept = λ t. refl; joined = λ t. refl }
-keeps JoinerTifinagh = record { marks = λ t. (refl, refl); kept = λ t. refl; joined = λ t. refl }
-keeps LisuTone = record { marks = λ t. (refl, refl); kept = λ t. refl; joined = λ t. refl }
-keeps OrkhonI = record { marks = λ t. (refl, refl); kept = λ t. refl; joined = λ t. refl }
-keeps ZwjOrkhonI = record { marks = λ t. (refl, refl); kept = λ t. refl; joined = λ t. refl }
-keeps KhmerLetter = record { marks = λ t. (refl, refl); kept = λ t. refl; joined = λ t. refl }
+keeps _ = record { marks = λ t. (refl, refl); kept = λ t. refl; joined = λ t. refl }
 
 kept-calm : (s : State) → is_line_feed (if_kept s).after ≡ false
 kept-calm s = kept-or-plain (is_kept s.after) refl
@@ -327,62 +257,16 @@ calm-alef false false = tt
 
 joins-calm : (a : After) (c : ℕ) → IsCalm (joins false a c)
 unfolding joins before_alef IsCalm
-joins-calm Nothing c = grind arith
-joins-calm LineFeed c = grind arith
-joins-calm EmojiModifier c = grind arith
-joins-calm RegionalIndicator c = grind arith
-joins-calm RegionalIndicators c = grind arith
-joins-calm Emoji c = grind arith
-joins-calm ZwjEmoji c = grind arith
-joins-calm KeycapZwjEmoji c = grind arith
-joins-calm IndicatorZwj c = grind arith
-joins-calm EvenIndicatorsZwj c = grind arith
-joins-calm OddIndicatorsZwj c = grind arith
-joins-calm TagEnd c = grind arith
-joins-calm TagDigit1 c = grind arith
-joins-calm TagDigit2 c = grind arith
-joins-calm TagDigit3 c = grind arith
-joins-calm TagLetter1 c = grind arith
-joins-calm TagLetter2 c = grind arith
-joins-calm TagLetter3 c = grind arith
-joins-calm TagLetter4 c = grind arith
-joins-calm TagLetter5 c = grind arith
-joins-calm TagLetter6 c = grind arith
-joins-calm KiratE c = grind arith
-joins-calm KiratAi c = grind arith
 joins-calm Alef c = calm-alef (is_lam c) _
-joins-calm Solidus c = grind arith
-joins-calm SolidusAlef c = grind arith
-joins-calm Lamed c = grind arith
-joins-calm ZwjLamed c = grind arith
-joins-calm Ya c = grind arith
-joins-calm ZwjYa c = grind arith
-joins-calm VowelZwjYa c = grind arith
-joins-calm Tifinagh c = grind arith
-joins-calm ZwjTifinagh c = grind arith
-joins-calm JoinerTifinagh c = grind arith
-joins-calm LisuTone c = grind arith
-joins-calm OrkhonI c = grind arith
-joins-calm ZwjOrkhonI c = grind arith
-joins-calm KhmerLetter c = grind arith
+joins-calm _ c = grind arith
 
 calm-of : (c t : ℕ) (k : Kind) → calm (added t (of_kind false c k))
 unfolding calm
-calm-of c t kinds.Zero = refl
-calm-of c t kinds.Narrow = refl
-calm-of c t kinds.Wide = refl
-calm-of c t kinds.Ambiguous = refl
-calm-of c t kinds.Alef = refl
-calm-of c t kinds.KhmerLetter = refl
-calm-of c t kinds.TifinaghConsonant = refl
-calm-of c t kinds.LisuTone = refl
-calm-of c t kinds.RegionalIndicator = refl
-calm-of c t kinds.EmojiModifier = refl
-calm-of c t kinds.Emoji = refl
 calm-of c t kinds.Single = single-calm c
   where
     single-calm : (c : ℕ) → is_line_feed (single false c).1.after ≡ false
     single-calm c = grind arith
+calm-of c t _ = refl
 
 calm-alone : (c t : ℕ) → calm (added t (alone false c))
 unfolding alone
@@ -448,10 +332,10 @@ read-calm (c ∷ cs) all = calm-step c (read_before false cs (0, plain)) all.0
 read-shown : (cs : List ℕ) → AllByRecursion (λ c. c ≢ 10) cs → read_before false (map shown_character cs) (0, plain) ≡ read_before false cs (0, plain)
 read-shown [] all = refl
 read-shown (c ∷ cs) all =
-    let go = read-shown cs all.1 in
+    let so_far = read-shown cs all.1 in
     elim (which c) [
-      | inr same ↦ ap₂ (step false) same go
-      | inl is ↦ ap (step false (shown_character c)) go ∙ step-neutral (shown_character c) is.looks is.shown r ∙ sym (step-control c r all.0 is.below is.base (read-calm cs all.1))
+      | inr same ↦ ap₂ (step false) same so_far
+      | inl is ↦ ap (step false (shown_character c)) so_far ∙ step-neutral (shown_character c) is.looks is.shown r ∙ sym (step-control c r all.0 is.below is.base (read-calm cs all.1))
     ]
   where
     r : Reading
@@ -465,7 +349,7 @@ shown-width cs all = ap (λ (r : Reading). r.0) (read-shown cs all)
 
 all-parts : {A : Type 0} (P : A → Type 0) (xs ys : List A) → AllByRecursion P (xs ++ ys) → AllByRecursion P xs × AllByRecursion P ys
 all-parts P [] ys all = (tt, all)
-all-parts P (x ∷ xs) ys all = let go = all-parts P xs ys all.1 in ((all.0, go.0), go.1)
+all-parts P (x ∷ xs) ys all = let so_far = all-parts P xs ys all.1 in ((all.0, so_far.0), so_far.1)
 
 no-newlines : (cs : List ℕ) → AllByRecursion (λ b. b ≢ 10) (encode_utf8_all cs) → AllByRecursion (λ c. c ≢ 10) cs
 no-newlines [] all = tt

@@ -19,10 +19,10 @@ module _ (axis : Axis) (lines : ℕ → ℕ) where
   unfolding span
   start-span s at zero = ap (start_of axis lines s) (add-zero at) ∙ sym (add-zero (start_of axis lines s at))
   start-span s at (suc n) =
-      let go : start_of axis lines s (at + n) ≡ start_of axis lines s at + span s at n = start-span s at n in
+      let so_far : start_of axis lines s (at + n) ≡ start_of axis lines s at + span s at n = start-span s at n in
       let more : start_of axis lines s (at + n + 1) ≡ start_of axis lines s (at + n) + (lines (at + n) + get_or s (at + n) 0 + pad axis) = start-more s (at + n) in
       let same : at + suc n ≡ at + n + 1 = omega arith in
-      ap (start_of axis lines s) same ∙ more ∙ ap (λ x. x + (lines (at + n) + get_or s (at + n) 0 + pad axis)) go ∙ add_assoc (start_of axis lines s at) (span s at n) (lines (at + n) + get_or s (at + n) 0 + pad axis)
+      ap (start_of axis lines s) same ∙ more ∙ ap (λ x. x + (lines (at + n) + get_or s (at + n) 0 + pad axis)) so_far ∙ add_assoc (start_of axis lines s at) (span s at n) (lines (at + n) + get_or s (at + n) 0 + pad axis)
 
   pub room-span : (s : List ℕ) (at n : ℕ) → room axis lines s at n ≡ span s at n - lines at - pad axis
   room-span s at n = let e : start_of axis lines s (at + n) ≡ start_of axis lines s at + span s at n = start-span s at n in omega arith
@@ -31,7 +31,7 @@ module _ (axis : Axis) (lines : ℕ → ℕ) where
   unfolding span
   span-some s at zero h = absurd (omega arith)
   span-some s at (suc zero) h = let e : lines (at + 0) ≡ lines at = ap lines (add-zero at) in omega arith
-  span-some s at (suc (suc n)) h = let go : lines at + pad axis ≤ span s at (suc n) = span-some s at (suc n) (omega arith) in omega arith
+  span-some s at (suc (suc n)) h = let so_far : lines at + pad axis ≤ span s at (suc n) = span-some s at (suc n) (omega arith) in omega arith
 
   -- the room in one size
   pub room-one : (s : List ℕ) (at : ℕ) → room axis lines s at 1 ≡ get_or s at 0
@@ -93,7 +93,7 @@ times (suc n) q = times n q + q
 times-is : (n q : ℕ) → times n q ≡ n * q
 unfolding times
 times-is zero q = omega arith
-times-is (suc n) q = let go : times n q ≡ n * q = times-is n q in omega arith
+times-is (suc n) q = let so_far : times n q ≡ n * q = times-is n q in omega arith
 
 all-shares : (lack n : ℕ) → times n (lack / n) + lack % n ≡ lack
 all-shares lack n = ap (λ x. x + lack % n) (times-is n (lack / n)) ∙ div-add-mod lack n
@@ -134,7 +134,7 @@ module _ (axis : Axis) (lines : ℕ → ℕ) (s : List ℕ) (at n need : ℕ) wh
       let got : share (need - room axis lines s at n) at n (at + 0) ≡ (need - room axis lines s at n) / n + (need - room axis lines s at n) % n = shared-first ((need - room axis lines s at n) / n) ((need - room axis lines s at n) % n) at n (omega arith) in
       omega arith
   span-grown (suc j) h inside =
-      let go : span axis lines (grown_sizes axis lines s at n need) at (suc j) ≡ span axis lines s at (suc j) + times (suc j) ((need - room axis lines s at n) / n) + (need - room axis lines s at n) % n = span-grown j (omega arith) inside in
+      let so_far : span axis lines (grown_sizes axis lines s at n need) at (suc j) ≡ span axis lines s at (suc j) + times (suc j) ((need - room axis lines s at n) / n) + (need - room axis lines s at n) % n = span-grown j (omega arith) inside in
       let now : get_or (grown_sizes axis lines s at n need) (at + suc j) 0 ≡ get_or s (at + suc j) 0 + share (need - room axis lines s at n) at n (at + suc j) = get-grown (at + suc j) (omega arith) in
       let got : share (need - room axis lines s at n) at n (at + suc j) ≡ (need - room axis lines s at n) / n = shared-other ((need - room axis lines s at n) / n) ((need - room axis lines s at n) % n) at n j h in
       omega arith
@@ -160,7 +160,7 @@ module _ (axis : Axis) (lines : ℕ → ℕ) (s : List ℕ) (k : ℕ) where
   unfolding span
   span-before at zero h = refl
   span-before at (suc n) h =
-      let go : span axis lines s at n ≡ span axis lines (set s k 0) at n = span-before at n (omega arith) in
+      let so_far : span axis lines s at n ≡ span axis lines (set s k 0) at n = span-before at n (omega arith) in
       let other : get_or (set s k 0) (at + n) 0 ≡ get_or s (at + n) 0 = get_or-set_other s k (at + n) 0 0 (λ e. absurd (omega (arith, e, h))) in
       omega arith
 

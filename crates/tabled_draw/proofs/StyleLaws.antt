@@ -1,7 +1,7 @@
 -- The lines and the characters of styles: computed, for each set of arms.
 use Rattle.tabled_draw.proofs.Common.{Alignment, Arms, List, Plan, Style, [], are_none, arith, cond, cond-false, cond-true, corner, meeting, nat_tests, sym, ℕ, ◌∙◌, ◌∷◌, ◌≡◌}
 use Rattle.tabled_draw.proofs.Arms.{all_arms, equal-arms}
-use Rattle.tabled_draw.proofs.LawPicture.{are-met, stand-between}
+use Rattle.tabled_draw.proofs.LawBorders.{are-met, stand-between}
 use Rattle.tabled_draw.proofs.Owned.{LieWell}
 use Rattle.tabled_draw.specs.Borders.{are_one}
 use Rattle.tabled_draw.specs.BoxCharacters.{arms_of, horizontal, vertical}

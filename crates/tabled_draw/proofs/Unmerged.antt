@@ -2,7 +2,7 @@
 use Rattle.tabled_draw.proofs.Common.{ASCII, AreUnmerged, Bool, Fits, Grid, IsOwnerRow, List, None, Option, Rectangle, SpanMap, Style, [], ap, ap₂, are_none, arith, arms, cond, cond-true, corner, corner_if, differ, edge_before, eqb-true, false, get_or, is_drawn, left_of, length, level, line_between, lt-ltb, marked, meeting, nat_lt, nil_from_length, plan_of, rectangles, refl, replicate, size_if, stretch, sym, true, unmerged_arms, unmerged_corner, unmerged_stretch, ℕ, ◌&&◌, ◌++◌, ◌+◌, ◌<◌, ◌==◌, ◌∙◌, ◌∷◌, ◌≡◌, ◌≤◌}
 use Rattle.tabled_draw.proofs.Arms.{marked-corner, same-arms}
 use Rattle.tabled_draw.proofs.Each.{each-same}
-use Rattle.tabled_draw.proofs.LawPicture.{arms-meet}
+use Rattle.tabled_draw.proofs.LawBorders.{arms-meet}
 use Rattle.tabled_draw.proofs.Owned.{fits-well}
 use Rattle.tabled_draw.specs.Borders.{Arms}
 use Rattle.tabled_draw.specs.Lines.{drawn_line}

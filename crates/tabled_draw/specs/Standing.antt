@@ -103,17 +103,27 @@ pub record AreSeenAlike (g h : Grid (List ℕ)) (es : List Rectangle) : Type 0 w
 abbrev pub is_amid : ℕ → ℕ → ℕ → Bool
 is_amid k at n = nat_lt at k && nat_lt k (at + n)
 
--- in row i, one merged cell lies at both sides of the left edge of column j
+-- in row i, a rectangle lies at both sides of the left edge of column j
+abbrev pub lies_beside : ℕ → ℕ → Rectangle → Bool
+lies_beside i j e = is_in_range i e.first.row e.size.height && is_amid j e.first.col e.size.width
+
+-- in column j, it lies above and below the upper edge of row i
+abbrev pub lies_above : ℕ → ℕ → Rectangle → Bool
+lies_above i j e = is_amid i e.first.row e.size.height && is_in_range j e.first.col e.size.width
+
+-- it lies all round the upper left corner of row i and column j
+abbrev pub lies_around : ℕ → ℕ → Rectangle → Bool
+lies_around i j e = is_amid i e.first.row e.size.height && is_amid j e.first.col e.size.width
+
+-- one of some merged cells lies so
 abbrev pub is_joined_beside : List Rectangle → ℕ → ℕ → Bool
-is_joined_beside es i j = list_any (λ (e : Rectangle). is_in_range i e.first.row e.size.height && is_amid j e.first.col e.size.width) es
+is_joined_beside es i j = list_any (lies_beside i j) es
 
--- in column j, one merged cell lies above and below the upper edge of row i
 abbrev pub is_joined_above : List Rectangle → ℕ → ℕ → Bool
-is_joined_above es i j = list_any (λ (e : Rectangle). is_amid i e.first.row e.size.height && is_in_range j e.first.col e.size.width) es
+is_joined_above es i j = list_any (lies_above i j) es
 
--- one merged cell lies all round the upper left corner of row i and column j
 abbrev pub is_joined_around : List Rectangle → ℕ → ℕ → Bool
-is_joined_around es i j = list_any (λ (e : Rectangle). is_amid i e.first.row e.size.height && is_amid j e.first.col e.size.width) es
+is_joined_around es i j = list_any (lies_around i j) es
 
 -- the arms that meet at the upper left corner of row i and column j: there is one wherever a border is that ends there
 abbrev pub meeting : Grid (List ℕ) → List Rectangle → ℕ → ℕ → Arms

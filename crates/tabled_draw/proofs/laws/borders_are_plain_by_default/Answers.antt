@@ -1,4 +1,4 @@
-use Rattle.tabled_draw.proofs.LawPicture.{stand-plain}
+use Rattle.tabled_draw.proofs.LawBorders.{stand-plain}
 use Rattle.tabled_draw.proofs.Fitting.{holds}
 use Rattle.tabled_draw.proofs.laws.borders_are_plain_by_default.Goals as goal
 
