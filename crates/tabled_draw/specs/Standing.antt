@@ -115,13 +115,15 @@ lies_above i j e = is_amid i e.first.row e.size.height && is_in_range j e.first.
 abbrev pub lies_around : ℕ → ℕ → Rectangle → Bool
 lies_around i j e = is_amid i e.first.row e.size.height && is_amid j e.first.col e.size.width
 
--- one of some merged cells lies so
+-- one of some merged cells lies at both sides of that edge
 abbrev pub is_joined_beside : List Rectangle → ℕ → ℕ → Bool
 is_joined_beside es i j = list_any (lies_beside i j) es
 
+-- one lies above and below that edge
 abbrev pub is_joined_above : List Rectangle → ℕ → ℕ → Bool
 is_joined_above es i j = list_any (lies_above i j) es
 
+-- one lies all round that corner
 abbrev pub is_joined_around : List Rectangle → ℕ → ℕ → Bool
 is_joined_around es i j = list_any (lies_around i j) es
 
