@@ -10,6 +10,7 @@ use Rattle.tabled_draw.proofs.Shares.{room-end}
 use Rattle.tabled_draw.proofs.Sizes.{line-least, room-enough, start-next}
 use Rattle.tabled_draw.proofs.Widths.{IsPlain, all-marks, columns-after_blanks, columns-append, columns-blanks, columns-nil, columns-replicate, plain-after_blanks, plain-append, plain-blanks, plain-marks, plain-nil}
 use Rattle.unicode_width.proofs.Computing.{unicode_width}
+use Rattle.tabled_draw.specs.Picture.{line_columns}
 
 -- ---- the characters of a style
 
@@ -88,6 +89,17 @@ module _ (plan : Plan) (aligns : List Alignment) (fine : IsFine plan.style) (wel
       aligned-wide (alignment_in aligns o.first.col) wide text (omega arith)
 
   module _ (n u d : ℕ) (line : IsLineOf plan.grid.rows u d) where
+    abbrev written : List ℕ
+    written = line_at plan aligns n u d
+
+    -- the columns between the lines at both sides of a column
+    abbrev inside_of : ℕ → ℕ
+    inside_of j = get_or (widths plan) j 0 + 2
+
+    -- what a cell that begins in a column shows stands between the lines at its sides
+    abbrev ShowsFramed : ℕ → Rectangle → Type 0
+    ShowsFramed j o = Framed written (left plan j) (line_width plan j) (line_width plan (j + o.size.width)) (shows plan aligns n o)
+
     abbrev up : ℕ → Option Rectangle
     up j = owner_at plan u j
 
@@ -163,9 +175,9 @@ module _ (plan : Plan) (aligns : List Alignment) (fine : IsFine plan.style) (wel
 
     column-plain : (j : ℕ) → IsPlain (column_of j)
     column-plain j =
-        let level = replicate (get_or (widths plan) j 0 + 2) plan.style.horizontal in
+        let level = replicate (inside_of j) plan.style.horizontal in
         cond_both (differ (up (j + 1)) (down (j + 1))) level (shows_in plan aligns n j (up (j + 1))) IsPlain
-        (λ apart. plain-marks level (all-marks (get_or (widths plan) j 0 + 2) plan.style.horizontal (level-fine plan.style fine)))
+        (λ apart. plain-marks level (all-marks (inside_of j) plan.style.horizontal (level-fine plan.style fine)))
         (λ one. inside (up (j + 1)))
       where
         inside : (p : Option Rectangle) → IsPlain (shows_in plan aligns n j p)
@@ -178,11 +190,11 @@ module _ (plan : Plan) (aligns : List Alignment) (fine : IsFine plan.style) (wel
     part-plain j = plain-append (edge_of j) (column_of j) (edge-plain j) (column-plain j)
 
     -- a border between two owners
-    column-apart : (j : ℕ) → differ (up (j + 1)) (down (j + 1)) ≡ true → column_of j ≡ replicate (get_or (widths plan) j 0 + 2) plan.style.horizontal
-    column-apart j t = cond-true (differ (up (j + 1)) (down (j + 1))) (replicate (get_or (widths plan) j 0 + 2) plan.style.horizontal) (shows_in plan aligns n j (up (j + 1))) t
+    column-apart : (j : ℕ) → differ (up (j + 1)) (down (j + 1)) ≡ true → column_of j ≡ replicate (inside_of j) plan.style.horizontal
+    column-apart j t = cond-true (differ (up (j + 1)) (down (j + 1))) (replicate (inside_of j) plan.style.horizontal) (shows_in plan aligns n j (up (j + 1))) t
 
     column-one : (j : ℕ) (o : Rectangle) → up (j + 1) ≡ Some o → down (j + 1) ≡ Some o → column_of j ≡ cond (eqb o.first.col j) (shows plan aligns n o) []
-    column-one j o e f = cond-false (differ (up (j + 1)) (down (j + 1))) (replicate (get_or (widths plan) j 0 + 2) plan.style.horizontal) (shows_in plan aligns n j (up (j + 1))) (ap₂ differ e f ∙ differ-self (Some o)) ∙ ap (shows_in plan aligns n j) e
+    column-one j o e f = cond-false (differ (up (j + 1)) (down (j + 1))) (replicate (inside_of j) plan.style.horizontal) (shows_in plan aligns n j (up (j + 1))) (ap₂ differ e f ∙ differ-self (Some o)) ∙ ap (shows_in plan aligns n j) e
 
     column-shows : (j : ℕ) (o : Rectangle) → up (j + 1) ≡ Some o → down (j + 1) ≡ Some o → o.first.col ≡ j → column_of j ≡ shows plan aligns n o
     column-shows j o e f first = column-one j o e f ∙ cond-true _ (shows plan aligns n o) [] (eq-eqb o.first.col j first)
@@ -227,7 +239,7 @@ module _ (plan : Plan) (aligns : List Alignment) (fine : IsFine plan.style) (wel
 
         past-border : (differ (up (j + 1)) (down (j + 1)) ≡ true) ⊎ (differ (up (j + 1)) (down (j + 1)) ≡ false) → Reached (j + 1) (w + text_width (part j))
         past-border (inl two) =
-            let wide : text_width (part j) ≡ line_width plan j + (get_or (widths plan) j 0 + 2) = columns-part j (line_width plan j) (get_or (widths plan) j 0 + 2) first (ap text_width (column-apart j two) ∙ columns-replicate (get_or (widths plan) j 0 + 2) plan.style.horizontal (level-fine plan.style fine)) in
+            let wide : text_width (part j) ≡ line_width plan j + (inside_of j) = columns-part j (line_width plan j) (inside_of j) first (ap text_width (column-apart j two) ∙ columns-replicate (inside_of j) plan.style.horizontal (level-fine plan.style fine)) in
             let to : left plan (j + 1) ≡ left plan j + (line_width plan j + get_or (widths plan) j 0 + 2) = start-next Columns plan.style plan.grid plan.merged j in
             edge (not-joint (j + 1) (omega (arith, less)) (omega (arith, less)) (λ o e e' f f'. false≢true (sym (ap₂ differ e f ∙ differ-self (Some o)) ∙ two))) (omega (arith, wide, to, is))
         past-border (inr one) =
@@ -263,13 +275,13 @@ module _ (plan : Plan) (aligns : List Alignment) (fine : IsFine plan.style) (wel
       reached-edge : (j : ℕ) → j ≤ plan.grid.columns → joint j ≡ false → text_width (each j part) ≡ left plan j
       reached-edge j h apart = elim (reached j h) [ edge _ is ↦ is | inside o e f e' f' is ↦ absurd (false≢true (sym apart ∙ joint-from j o e f e' f')) ]
 
-      pub line-wide : text_width (line_at plan aligns n u d) ≡ left plan plan.grid.columns + line_width plan plan.grid.columns
+      pub line-wide : text_width written ≡ line_columns plan
       line-wide = columns-append (each plan.grid.columns part) (edge_of plan.grid.columns) (edge-plain plan.grid.columns) ∙ ap₂ (λ x y. x + y) (reached-edge plan.grid.columns (omega arith) apart-last) (edge-wide plan.grid.columns apart-last)
 
       -- ---- what stands in a line
 
       -- an edge stands where no owner is all round it
-      pub edge-stands : (j : ℕ) → j ≤ plan.grid.columns → line_width plan j ≡ 1 → ((o : Rectangle) → up j ≡ Some o → up (j + 1) ≡ Some o → down j ≡ Some o → down (j + 1) ≡ Some o → ⊥) → StandsIn (line_at plan aligns n u d) (left plan j) (mark plan.style (eqb u d) (meeting_at j) ∷ [])
+      pub edge-stands : (j : ℕ) → j ≤ plan.grid.columns → line_width plan j ≡ 1 → ((o : Rectangle) → up j ≡ Some o → up (j + 1) ≡ Some o → down j ≡ Some o → down (j + 1) ≡ Some o → ⊥) → StandsIn written (left plan j) (mark plan.style (eqb u d) (meeting_at j) ∷ [])
       edge-stands j h drawn never = elim (cases_lt j plan.grid.columns) [
         | inl less ↦
             let s = split-each part plan.grid.columns j less in
@@ -296,25 +308,25 @@ module _ (plan : Plan) (aligns : List Alignment) (fine : IsFine plan.style) (wel
           edge_is = edge-is j apart ∙ ap (λ k. replicate k (mark_at j)) drawn
 
       -- between two owners stands a level border
-      pub level-stands : (j : ℕ) → j < plan.grid.columns → ((o : Rectangle) → up (j + 1) ≡ Some o → down (j + 1) ≡ Some o → ⊥) → StandsIn (line_at plan aligns n u d) (left plan j + line_width plan j) (replicate (left plan (j + 1) - left plan j - line_width plan j) plan.style.horizontal)
+      pub level-stands : (j : ℕ) → j < plan.grid.columns → ((o : Rectangle) → up (j + 1) ≡ Some o → down (j + 1) ≡ Some o → ⊥) → StandsIn written (left plan j + line_width plan j) (replicate (left plan (j + 1) - left plan j - line_width plan j) plan.style.horizontal)
       level-stands j less never =
-          let size = get_or (widths plan) j 0 + 2 in
+          let size = inside_of j in
           let two : differ (up (j + 1)) (down (j + 1)) ≡ true = true_from_ne_false (differ (up (j + 1)) (down (j + 1))) (λ f. (let both = owner-both well u (j + 1) d (j + 1) f (some-one (j + 1) (omega arith) (omega (arith, less))) in never both.0 both.1 both.2)) in
           let is : column_of j ≡ replicate size plan.style.horizontal = column-apart j two in
           let to : left plan (j + 1) ≡ left plan j + (line_width plan j + get_or (widths plan) j 0 + 2) = start-next Columns plan.style plan.grid plan.merged j in
           let many : size ≡ left plan (j + 1) - left plan j - line_width plan j = omega (arith, to) in
           let apart : joint j ≡ false = not-joint j (omega (arith, less)) wide (λ o e e' f f'. never o e' f') in
           let s = split-each part plan.grid.columns j less in
-          let stands : StandsIn (line_at plan aligns n u d) (left plan j + line_width plan j) (column_of j) = record {
+          let stands : StandsIn written (left plan j + line_width plan j) (column_of j) = record {
             before = each j part ++ edge_of j;
             after = s.rest ++ edge_of plan.grid.columns;
             is = ap (λ xs. xs ++ edge_of plan.grid.columns) s.is ∙ simp append_assoc;
             at = columns-append (each j part) (edge_of j) (edge-plain j) ∙ ap₂ (λ x y. x + y) (reached-edge j (omega (arith, less)) apart) (edge-wide j apart);
           } in
-          subst (StandsIn (line_at plan aligns n u d) (left plan j + line_width plan j)) (is ∙ ap (λ k. replicate k plan.style.horizontal) many) stands
+          subst (StandsIn written (left plan j + line_width plan j)) (is ∙ ap (λ k. replicate k plan.style.horizontal) many) stands
 
       -- what a cell shows stands between the edges at its left and at its right
-      pub cell-framed : (j : ℕ) (o : Rectangle) → j < plan.grid.columns → o.first.col ≡ j → up (j + 1) ≡ Some o → down (j + 1) ≡ Some o → Framed (line_at plan aligns n u d) (left plan j) (line_width plan j) (line_width plan (j + o.size.width)) (shows plan aligns n o)
+      pub cell-framed : (j : ℕ) (o : Rectangle) → j < plan.grid.columns → o.first.col ≡ j → up (j + 1) ≡ Some o → down (j + 1) ≡ Some o → ShowsFramed j o
       cell-framed j o less first e f = elim (cases_lt end plan.grid.columns) [
         | inl within ↦
             let s = split-each part plan.grid.columns (j + o.size.width) within in
@@ -363,7 +375,7 @@ module _ (plan : Plan) (aligns : List Alignment) (fine : IsFine plan.style) (wel
               ap (λ x. each x part) (let s : j + o.size.width ≡ j + 1 + (o.size.width - 1) = omega (arith, a.lies.wide) in s) ∙ nothing (o.size.width - 1) (omega (arith, a.lies.wide))
               ∙ each-more part j ∙ ap (λ x. each j part ++ (edge_of j ++ x)) (column-shows j o e f first)
 
-          framed : (after : List ℕ) → line_at plan aligns n u d ≡ each (j + o.size.width) part ++ (edge_of (j + o.size.width) ++ after) → Framed (line_at plan aligns n u d) (left plan j) (line_width plan j) (line_width plan (j + o.size.width)) (shows plan aligns n o)
+          framed : (after : List ℕ) → line_at plan aligns n u d ≡ each (j + o.size.width) part ++ (edge_of (j + o.size.width) ++ after) → ShowsFramed j o
           framed after is = record {
             first = edge_of j;
             last = edge_of (j + o.size.width);

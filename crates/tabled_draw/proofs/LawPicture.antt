@@ -1,5 +1,5 @@
 -- The lines of a picture: which is which, how many there are, how wide they are, and that no control character stands in them.
-use Rattle.tabled_draw.proofs.Common.{Alignment, AllByRecursion, AreNoControls, Columns, Grid, IsFine, IsInside, IsNoControl, List, None, Option, Plan, Rectangle, Rows, Some, StandsAt, StandsIn, Style, [], add-one, add-zero, aligned, alignment_in, all-append, ap, append_assoc, ap₂, are_none, arith, arms, border, border_line, cases_eq, cases_lt, column_at, common_steps, cond-false, cond-true, cond_both, count_along, differ, drawn_lines, each, edge_at, eqb, eqb-false, get_or, get_or-append-add, get_or_append_left, heights, indent, inl, inr, is_drawn, left, length, length-append, length-replicate, line_at, line_height, line_width, lines_around, lines_of_row, lines_shown, ltb-false, map, mark, nat_tests, owner_at, picture_lines, place, refl, replicate, room, shown_character, shown_line, shows, shows_in, subst, suc, sum, sum_by_more, sym, take, take_all, text_of_cell, text_width, top, total, true, widths, zero, ℕ, ◌++◌, ◌+◌, ◌-◌, ◌<◌, ◌==◌, ◌||◌, ◌∙◌, ◌∷◌, ◌≡◌, ◌≢◌, ◌≤◌, ◌⊎◌}
+use Rattle.tabled_draw.proofs.Common.{Alignment, AllByRecursion, AreNoControls, Columns, Grid, IsFine, IsInside, IsNoControl, List, None, Option, Plan, Rectangle, Rows, Some, StandsAt, StandsIn, Style, [], add-one, add-zero, aligned, alignment_in, all-append, ap, append_assoc, ap₂, are_none, arith, arms, border, border_line, cases_eq, cases_lt, column_at, common_steps, cond-false, cond-true, cond_both, count_along, differ, drawn_lines, each, edge_at, eqb, eqb-false, get_or, get_or-append-add, get_or_append_left, heights, indent, inl, inr, is_drawn, length, length-append, length-replicate, line_at, line_height, line_width, lines_around, lines_of_row, lines_shown, ltb-false, map, mark, nat_tests, owner_at, picture_lines, place, refl, replicate, room, shown_character, shown_line, shows, shows_in, subst, suc, sum, sum_by_more, sym, take, take_all, text_of_cell, text_width, top, total, true, widths, zero, ℕ, ◌++◌, ◌+◌, ◌-◌, ◌<◌, ◌==◌, ◌||◌, ◌∙◌, ◌∷◌, ◌≡◌, ◌≢◌, ◌≤◌, ◌⊎◌}
 use Rattle.std.proofs.Common.{chars}
 use borrow.Author.Tests.{ne_eqb}
 use Rattle.tabled_draw.proofs.Each.{all-each, get-singles, length-singles, split-each}
@@ -8,6 +8,7 @@ use Rattle.tabled_draw.proofs.Owned.{LieWell}
 use Rattle.std.proofs.lemmas.Bool.{or_right}
 use Rattle.tabled_grid.specs.declared.records.axis.Axis.{Axis}
 use Rattle.tabled_draw.proofs.Sizes.{length-sizes, start-next}
+use Rattle.tabled_draw.specs.Picture.{line_columns}
 
 -- a line is drawn once, or not
 pub border-least : (axis : Axis) (style : Style) (g : Grid (List ℕ)) (k : ℕ) → border axis style g k ≤ 1
@@ -154,8 +155,8 @@ module _ (plan : Plan) (aligns : List Alignment) where
       with-or-without-cells (inr high) (inr wide) = some (omega (arith, high)) (omega (arith, wide))
 
 module _ (plan : Plan) (aligns : List Alignment) (fine : IsFine plan.style) (well : LieWell plan.grid.rows plan.grid.columns plan.merged) where
-  pub equally-wide : AllByRecursion (λ line. text_width line ≡ left plan plan.grid.columns + line_width plan plan.grid.columns) (picture_lines plan aligns)
-  equally-wide = all-lines plan aligns (λ line. text_width line ≡ left plan plan.grid.columns + line_width plan plan.grid.columns) (λ n u d wide line. line-wide plan aligns fine well n u d line wide)
+  pub equally-wide : AllByRecursion (λ line. text_width line ≡ line_columns plan) (picture_lines plan aligns)
+  equally-wide = all-lines plan aligns (λ line. text_width line ≡ line_columns plan) (λ n u d wide line. line-wide plan aligns fine well n u d line wide)
 
 -- ---- how many lines there are
 

@@ -117,37 +117,42 @@ share-outside lack at n k out = cond-false _ _ _ out
 -- ---- sizes that have grown
 
 module _ (axis : Axis) (lines : ℕ → ℕ) (s : List ℕ) (at n need : ℕ) where
-  pub length-grown : length (grown_sizes axis lines s at n need) ≡ length s
-  length-grown = length-singles (λ k. get_or s k 0 + share (need - room axis lines s at n) at n k) (length s)
+  abbrev lack : ℕ
+  lack = need - room axis lines s at n
 
-  pub get-grown : (k : ℕ) → k < length s → get_or (grown_sizes axis lines s at n need) k 0 ≡ get_or s k 0 + share (need - room axis lines s at n) at n k
-  get-grown k h = get-singles (λ k. get_or s k 0 + share (need - room axis lines s at n) at n k) (length s) k 0 h
+  abbrev grown : List ℕ
+  grown = grown_sizes axis lines s at n need
 
-  pub grown-larger : Larger s (grown_sizes axis lines s at n need)
+  pub length-grown : length grown ≡ length s
+  length-grown = length-singles (λ k. get_or s k 0 + share lack at n k) (length s)
+
+  pub get-grown : (k : ℕ) → k < length s → get_or grown k 0 ≡ get_or s k 0 + share lack at n k
+  get-grown k h = get-singles (λ k. get_or s k 0 + share lack at n k) (length s) k 0 h
+
+  pub grown-larger : Larger s grown
   grown-larger = record { long = length-grown; each = λ k. elim (cases_lt k (length s)) [ inl less ↦ omega (arith, get-grown k less) | inr past ↦ omega (arith, get_or_past s k 0 past) ] }
 
   -- the first j of n sizes have got their shares
-  span-grown : (j : ℕ) → j < n → at + n ≤ length s → span axis lines (grown_sizes axis lines s at n need) at (suc j) ≡ span axis lines s at (suc j) + times (suc j) ((need - room axis lines s at n) / n) + (need - room axis lines s at n) % n
+  span-grown : (j : ℕ) → j < n → at + n ≤ length s → span axis lines grown at (suc j) ≡ span axis lines s at (suc j) + times (suc j) (lack / n) + lack % n
   unfolding span times shared
   span-grown zero h inside =
-      let now : get_or (grown_sizes axis lines s at n need) (at + 0) 0 ≡ get_or s (at + 0) 0 + share (need - room axis lines s at n) at n (at + 0) = get-grown (at + 0) (omega arith) in
-      let got : share (need - room axis lines s at n) at n (at + 0) ≡ (need - room axis lines s at n) / n + (need - room axis lines s at n) % n = shared-first ((need - room axis lines s at n) / n) ((need - room axis lines s at n) % n) at n (omega arith) in
+      let now : get_or grown (at + 0) 0 ≡ get_or s (at + 0) 0 + share lack at n (at + 0) = get-grown (at + 0) (omega arith) in
+      let got : share lack at n (at + 0) ≡ lack / n + lack % n = shared-first (lack / n) (lack % n) at n (omega arith) in
       omega arith
   span-grown (suc j) h inside =
-      let so_far : span axis lines (grown_sizes axis lines s at n need) at (suc j) ≡ span axis lines s at (suc j) + times (suc j) ((need - room axis lines s at n) / n) + (need - room axis lines s at n) % n = span-grown j (omega arith) inside in
-      let now : get_or (grown_sizes axis lines s at n need) (at + suc j) 0 ≡ get_or s (at + suc j) 0 + share (need - room axis lines s at n) at n (at + suc j) = get-grown (at + suc j) (omega arith) in
-      let got : share (need - room axis lines s at n) at n (at + suc j) ≡ (need - room axis lines s at n) / n = shared-other ((need - room axis lines s at n) / n) ((need - room axis lines s at n) % n) at n j h in
+      let so_far : span axis lines grown at (suc j) ≡ span axis lines s at (suc j) + times (suc j) (lack / n) + lack % n = span-grown j (omega arith) inside in
+      let now : get_or grown (at + suc j) 0 ≡ get_or s (at + suc j) 0 + share lack at n (at + suc j) = get-grown (at + suc j) (omega arith) in
+      let got : share lack at n (at + suc j) ≡ lack / n = shared-other (lack / n) (lack % n) at n j h in
       omega arith
 
   -- sizes that have grown by what they lack have room enough
-  pub grown-enough : 1 ≤ n → at + n ≤ length s → need ≤ span axis lines (grown_sizes axis lines s at n need) at n - lines at - pad axis
+  pub grown-enough : 1 ≤ n → at + n ≤ length s → need ≤ span axis lines grown at n - lines at - pad axis
   grown-enough some inside = enough-of n refl some
     where
-      enough-of : (m : ℕ) → n ≡ m → 1 ≤ m → need ≤ span axis lines (grown_sizes axis lines s at n need) at n - lines at - pad axis
+      enough-of : (m : ℕ) → n ≡ m → 1 ≤ m → need ≤ span axis lines grown at n - lines at - pad axis
       enough-of zero is h = absurd (omega arith)
       enough-of (suc j) is h =
-          let lack : ℕ = need - room axis lines s at n in
-          let all : span axis lines (grown_sizes axis lines s at n need) at n ≡ span axis lines s at n + times n (lack / n) + lack % n = subst (λ m. span axis lines (grown_sizes axis lines s at n need) at m ≡ span axis lines s at m + times m (lack / n) + lack % n) (sym is) (span-grown j (omega arith) inside) in
+          let all : span axis lines grown at n ≡ span axis lines s at n + times n (lack / n) + lack % n = subst (λ m. span axis lines grown at m ≡ span axis lines s at m + times m (lack / n) + lack % n) (sym is) (span-grown j (omega arith) inside) in
           let shares : times n (lack / n) + lack % n ≡ lack = all-shares lack n in
           let before : room axis lines s at n ≡ span axis lines s at n - lines at - pad axis = room-span axis lines s at n in
           let least : lines at + pad axis ≤ span axis lines s at n = span-some axis lines s at n some in

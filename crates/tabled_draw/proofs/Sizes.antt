@@ -37,33 +37,53 @@ unfolding own-size
 length-own axis g es = length-singles (own-size axis g es) (count_along axis g)
 
 module _ (axis : Axis) (style : Style) (g : Grid (List ℕ)) where
-  larger-for : (s : List ℕ) (e : Rectangle) → Larger s (grown_for axis style g s e)
-  larger-for s e = grown-larger axis (border axis style g) s (line_of axis e.first) (lines_in axis e.size) (asks axis (text_of_cell g e.first))
+  -- where a merged cell begins, how much it takes, and what its text asks
+  abbrev begin : Rectangle → ℕ
+  begin e = line_of axis e.first
 
-  fold-larger : (es : List Rectangle) (s : List ℕ) → Larger s (fold (grown_for axis style g) s es)
+  abbrev count : Rectangle → ℕ
+  count e = lines_in axis e.size
+
+  abbrev need : Rectangle → ℕ
+  need e = asks axis (text_of_cell g e.first)
+
+  -- the sizes of lines, and sizes that have grown for a merged cell
+  abbrev drawn : ℕ → ℕ
+  drawn k = border axis style g k
+
+  abbrev grow : List ℕ → Rectangle → List ℕ
+  grow s e = grown_for axis style g s e
+
+  -- the room that sizes give a merged cell
+  abbrev room_for : List ℕ → Rectangle → ℕ
+  room_for s e = room axis drawn s (begin e) (count e)
+
+  larger-for : (s : List ℕ) (e : Rectangle) → Larger s (grow s e)
+  larger-for s e = grown-larger axis drawn s (begin e) (count e) (need e)
+
+  fold-larger : (es : List Rectangle) (s : List ℕ) → Larger s (fold grow s es)
   fold-larger [] s = record { long = refl; each = λ k. omega arith }
-  fold-larger (e ∷ es) s = larger-trans s (grown_for axis style g s e) (fold (grown_for axis style g) (grown_for axis style g s e) es) (larger-for s e) (fold-larger es (grown_for axis style g s e))
+  fold-larger (e ∷ es) s = larger-trans s (grow s e) (fold grow (grow s e) es) (larger-for s e) (fold-larger es (grow s e))
 
   -- these take rows or columns of some sizes
   LieAmong : List ℕ → List Rectangle → Type 0
-  LieAmong s es = (e : Rectangle) → Member e es → (1 ≤ lines_in axis e.size) × (line_of axis e.first + lines_in axis e.size ≤ length s)
+  LieAmong s es = (e : Rectangle) → Member e es → (1 ≤ count e) × (begin e + count e ≤ length s)
 
-  lie-later : (s : List ℕ) (x : Rectangle) (es : List Rectangle) → LieAmong s (x ∷ es) → LieAmong (grown_for axis style g s x) es
+  lie-later : (s : List ℕ) (x : Rectangle) (es : List Rectangle) → LieAmong s (x ∷ es) → LieAmong (grow s x) es
   unfolding LieAmong
   lie-later s x es all e m = ((all e (inr m)).0, (let inside = (all e (inr m)).1 in omega (arith, (larger-for s x).long)))
 
   fold-enough : (es : List Rectangle) (s : List ℕ) → LieAmong s es
-      → (e : Rectangle) → Member e es → asks axis (text_of_cell g e.first) ≤ span axis (border axis style g) (fold (grown_for axis style g) s es) (line_of axis e.first) (lines_in axis e.size) - border axis style g (line_of axis e.first) - pad axis
+      → (e : Rectangle) → Member e es → need e ≤ span axis drawn (fold grow s es) (begin e) (count e) - drawn (begin e) - pad axis
   unfolding LieAmong
   fold-enough [] s all e m = absurd m
   fold-enough (x ∷ es) s all e (inl same) =
-      let need = asks axis (text_of_cell g x.first) in
-      let t = grown_for axis style g s x in
+      let t = grow s x in
       let inside = all x (inl refl) in
-      let first : need ≤ span axis (border axis style g) t (line_of axis x.first) (lines_in axis x.size) - border axis style g (line_of axis x.first) - pad axis = grown-enough axis (border axis style g) s (line_of axis x.first) (lines_in axis x.size) need inside.0 inside.1 in
-      let later : span axis (border axis style g) t (line_of axis x.first) (lines_in axis x.size) ≤ span axis (border axis style g) (fold (grown_for axis style g) t es) (line_of axis x.first) (lines_in axis x.size) = span-larger axis (border axis style g) t (fold (grown_for axis style g) t es) (fold-larger es t) (line_of axis x.first) (lines_in axis x.size) in
+      let first : need x ≤ span axis drawn t (begin x) (count x) - drawn (begin x) - pad axis = grown-enough axis drawn s (begin x) (count x) (need x) inside.0 inside.1 in
+      let later : span axis drawn t (begin x) (count x) ≤ span axis drawn (fold grow t es) (begin x) (count x) = span-larger axis drawn t (fold grow t es) (fold-larger es t) (begin x) (count x) in
       rw same (omega arith)
-  fold-enough (x ∷ es) s all e (inr m) = fold-enough es (grown_for axis style g s x) (lie-later s x es all) e m
+  fold-enough (x ∷ es) s all e (inr m) = fold-enough es (grow s x) (lie-later s x es all) e m
 
   module _ (es : List Rectangle) where
     pub length-sizes : length (sizes axis style g es) ≡ count_along axis g
@@ -72,31 +92,31 @@ module _ (axis : Axis) (style : Style) (g : Grid (List ℕ)) where
 
     -- what stands in order stands in the list
     pub from-order : (e : Rectangle) → Member e (in_order axis g es) → Member e es
-    from-order e m = ordered-member (λ (x : Rectangle). line_of axis x.first) (count_along axis g) es e (ordered-member (λ (x : Rectangle). lines_in axis x.size) (count_along axis g + 1) (by_number (λ (x : Rectangle). line_of axis x.first) (count_along axis g) es) e m)
+    from-order e m = ordered-member (λ (x : Rectangle). begin x) (count_along axis g) es e (ordered-member (λ (x : Rectangle). count x) (count_along axis g + 1) (by_number (λ (x : Rectangle). begin x) (count_along axis g) es) e m)
 
     -- and the other way round, where it lies in the table
     in-order : LieWell g.rows g.columns es → (e : Rectangle) → Member e es → Member e (in_order axis g es)
     in-order well e m =
         let here = lies-along axis g e (well.lies e m) in
-        member-ordered (λ (x : Rectangle). lines_in axis x.size) (count_along axis g + 1) (by_number (λ (x : Rectangle). line_of axis x.first) (count_along axis g) es) e (member-ordered (λ (x : Rectangle). line_of axis x.first) (count_along axis g) es e m (omega (arith, here.0, here.1))) (omega (arith, here.0, here.1))
+        member-ordered (λ (x : Rectangle). count x) (count_along axis g + 1) (by_number (λ (x : Rectangle). begin x) (count_along axis g) es) e (member-ordered (λ (x : Rectangle). begin x) (count_along axis g) es e m (omega (arith, here.0, here.1))) (omega (arith, here.0, here.1))
 
     lie-among : LieWell g.rows g.columns es → LieAmong (own_sizes axis g es) (in_order axis g es)
     unfolding LieAmong
     lie-among well e m = let here = lies-along axis g e (well.lies e (from-order e m)) in (here.0, omega (arith, here.1, length-own axis g es))
 
-    pub start-next : (k : ℕ) → start_of axis (border axis style g) (sizes axis style g es) (k + 1) ≡ start_of axis (border axis style g) (sizes axis style g es) k + (border axis style g k + get_or (sizes axis style g es) k 0 + pad axis)
-    start-next k = start-more axis (border axis style g) (sizes axis style g es) k
+    pub start-next : (k : ℕ) → start_of axis drawn (sizes axis style g es) (k + 1) ≡ start_of axis drawn (sizes axis style g es) k + (drawn k + get_or (sizes axis style g es) k 0 + pad axis)
+    start-next k = start-more axis drawn (sizes axis style g es) k
 
     -- each owner has as much room as its text asks
-    pub room-enough : LieWell g.rows g.columns es → (p : Position) → p.row < g.rows → p.col < g.columns → asks axis (text_of_cell g (owner_in es p).first) ≤ room axis (border axis style g) (sizes axis style g es) (line_of axis (owner_in es p).first) (lines_in axis (owner_in es p).size)
+    pub room-enough : LieWell g.rows g.columns es → (p : Position) → p.row < g.rows → p.col < g.columns → asks axis (text_of_cell g (owner_in es p).first) ≤ room axis drawn (sizes axis style g es) (line_of axis (owner_in es p).first) (lines_in axis (owner_in es p).size)
     unfolding sizes own-size
     room-enough well p low far = elim (owned es p) [
       | held m h ↦
-          let enough : asks axis (text_of_cell g o.first) ≤ span axis (border axis style g) (sizes axis style g es) (line_of axis o.first) (lines_in axis o.size) - border axis style g (line_of axis o.first) - pad axis = fold-enough (in_order axis g es) base (lie-among well) o (in-order well o m) in
-          let r : room axis (border axis style g) (sizes axis style g es) (line_of axis o.first) (lines_in axis o.size) ≡ span axis (border axis style g) (sizes axis style g es) (line_of axis o.first) (lines_in axis o.size) - border axis style g (line_of axis o.first) - pad axis = room-span axis (border axis style g) (sizes axis style g es) (line_of axis o.first) (lines_in axis o.size) in
+          let enough : need o ≤ span axis drawn (sizes axis style g es) (begin o) (count o) - drawn (begin o) - pad axis = fold-enough (in_order axis g es) base (lie-among well) o (in-order well o m) in
+          let r : room_for (sizes axis style g es) o ≡ span axis drawn (sizes axis style g es) (begin o) (count o) - drawn (begin o) - pad axis = room-span axis drawn (sizes axis style g es) (begin o) (count o) in
           omega arith
       | alone is never ↦
-          let one : lines_in axis o.size ≡ 1 = ap (λ (x : Rectangle). lines_in axis x.size) is ∙ one_line axis in
+          let one : count o ≡ 1 = ap (λ (x : Rectangle). count x) is ∙ one_line axis in
           let asked : own axis g es p ≡ asks axis (text_of_cell g p) = cond-true _ _ _ (and_from _ _ (ap (λ (x : Rectangle). same_place x.first p) is ∙ same_place-self p) (ap (λ n. eqb n 1) one)) in
           let i = line_of axis p in
           let j = line_of (across axis) p in
@@ -105,8 +125,8 @@ module _ (axis : Axis) (style : Style) (g : Grid (List ℕ)) where
           let reached : own axis g es (place_in axis i j) ≤ largest (least axis) (count_along (across axis) g) f = largest-least (least axis) f (count_along (across axis) g) j (line_below (across axis)) in
           let at : get_or base i 0 ≡ own-size axis g es i = get-singles (own-size axis g es) (count_along axis g) i 0 (line_below axis) in
           let more : get_or base i 0 ≤ get_or (sizes axis style g es) i 0 = larger.each i in
-          let e : room axis (border axis style g) (sizes axis style g es) i 1 ≡ get_or (sizes axis style g es) i 0 = room-one axis (border axis style g) (sizes axis style g es) i in
-          let enough : asks axis (text_of_cell g p) ≤ room axis (border axis style g) (sizes axis style g es) i 1 = omega arith in
+          let e : room axis drawn (sizes axis style g es) i 1 ≡ get_or (sizes axis style g es) i 0 = room-one axis drawn (sizes axis style g es) i in
+          let enough : asks axis (text_of_cell g p) ≤ room axis drawn (sizes axis style g es) i 1 = omega arith in
           rw (is, one_line axis) enough
     ]
       where
@@ -152,51 +172,39 @@ module _ (axis : Axis) (style : Style) (g : Grid (List ℕ)) where
       most-each (x ∷ xs) m e (inr later) t = most-each xs (most m x) e later t
 
       -- a size that grows for a merged cell is no larger than what is lacking beside the others
-      grown-low : (s : List ℕ) (e : Rectangle) (much : ℕ) → Larger (own_sizes axis g es) s → 1 ≤ lines_in axis e.size → line_of axis e.first + lines_in axis e.size ≤ length s → (takes axis k e ≡ true → lacking axis style g es k e ≤ much) → get_or s k 0 ≤ much → get_or (grown_for axis style g s e) k 0 ≤ much
+      grown-low : (s : List ℕ) (e : Rectangle) (much : ℕ) → Larger (own_sizes axis g es) s → 1 ≤ count e → begin e + count e ≤ length s → (takes axis k e ≡ true → lacking axis style g es k e ≤ much) → get_or s k 0 ≤ much → get_or (grow s e) k 0 ≤ much
       grown-low s e much larger some inside enough low = elim (cases_lt k (length s)) [
         | inl less ↦ elim (cases_Bool (takes axis k e)) [
-          | inl t ↦ rw (get-grown axis (border axis style g) s (line_of axis e.first) (lines_in axis e.size) (asks axis (text_of_cell g e.first)) k less) (taken less t)
+          | inl t ↦ rw (get-grown axis drawn s (begin e) (count e) (need e) k less) (taken less t)
           | inr f ↦
-              let now : get_or (grown_for axis style g s e) k 0 ≡ get_or s k 0 + share (asks axis (text_of_cell g e.first) - room axis (border axis style g) s (line_of axis e.first) (lines_in axis e.size)) (line_of axis e.first) (lines_in axis e.size) k = get-grown axis (border axis style g) s (line_of axis e.first) (lines_in axis e.size) (asks axis (text_of_cell g e.first)) k less in
-              let none : share (asks axis (text_of_cell g e.first) - room axis (border axis style g) s (line_of axis e.first) (lines_in axis e.size)) (line_of axis e.first) (lines_in axis e.size) k ≡ 0 = share-outside (asks axis (text_of_cell g e.first) - room axis (border axis style g) s (line_of axis e.first) (lines_in axis e.size)) (line_of axis e.first) (lines_in axis e.size) k f in
+              let now : get_or (grow s e) k 0 ≡ get_or s k 0 + share (need e - room_for s e) (begin e) (count e) k = get-grown axis drawn s (begin e) (count e) (need e) k less in
+              let none : share (need e - room_for s e) (begin e) (count e) k ≡ 0 = share-outside (need e - room_for s e) (begin e) (count e) k f in
               omega arith
         ]
         | inr past ↦
-            let none : get_or (grown_for axis style g s e) k 0 ≡ 0 = get_or_past (grown_for axis style g s e) k 0 (omega (arith, (larger-for s e).long, past)) in
+            let none : get_or (grow s e) k 0 ≡ 0 = get_or_past (grow s e) k 0 (omega (arith, (larger-for s e).long, past)) in
             omega arith
       ]
         where
-          at : ℕ
-          at = line_of axis e.first
-
-          n : ℕ
-          n = lines_in axis e.size
-
-          need : ℕ
-          need = asks axis (text_of_cell g e.first)
-
-          lack : ℕ
-          lack = need - room axis (border axis style g) s (line_of axis e.first) (lines_in axis e.size)
-
-          ranged : takes axis k e ≡ true → (line_of axis e.first ≤ k) × (k < line_of axis e.first + lines_in axis e.size)
+          ranged : takes axis k e ≡ true → (begin e ≤ k) × (k < begin e + count e)
           ranged t = grind (arith, nat_tests)
 
-          taken : k < length s → takes axis k e ≡ true → get_or s k 0 + share (asks axis (text_of_cell g e.first) - room axis (border axis style g) s (line_of axis e.first) (lines_in axis e.size)) (line_of axis e.first) (lines_in axis e.size) k ≤ much
+          taken : k < length s → takes axis k e ≡ true → get_or s k 0 + share (need e - room_for s e) (begin e) (count e) k ≤ much
           taken less t =
               let base = own_sizes axis g es in
               let within = ranged t in
-              let shared : share (need - room axis (border axis style g) s (line_of axis e.first) (lines_in axis e.size)) (line_of axis e.first) (lines_in axis e.size) k ≤ need - room axis (border axis style g) s (line_of axis e.first) (lines_in axis e.size) = share-low (need - room axis (border axis style g) s (line_of axis e.first) (lines_in axis e.size)) (line_of axis e.first) (lines_in axis e.size) k some in
-              let without : room axis (border axis style g) s (line_of axis e.first) (lines_in axis e.size) ≡ room axis (border axis style g) (set s k 0) (line_of axis e.first) (lines_in axis e.size) + get_or s k 0 = room-without axis (border axis style g) s k (line_of axis e.first) (lines_in axis e.size) less within.0 within.1 in
-              let more : room axis (border axis style g) (set base k 0) (line_of axis e.first) (lines_in axis e.size) ≤ room axis (border axis style g) (set s k 0) (line_of axis e.first) (lines_in axis e.size) = room-larger axis (border axis style g) base k s larger (line_of axis e.first) (lines_in axis e.size) in
-              let most : asks axis (text_of_cell g e.first) - room axis (border axis style g) (set base k 0) (line_of axis e.first) (lines_in axis e.size) ≤ much = enough t in
+              let shared : share (need e - room_for s e) (begin e) (count e) k ≤ need e - room_for s e = share-low (need e - room_for s e) (begin e) (count e) k some in
+              let without : room_for s e ≡ room_for (set s k 0) e + get_or s k 0 = room-without axis drawn s k (begin e) (count e) less within.0 within.1 in
+              let more : room_for (set base k 0) e ≤ room_for (set s k 0) e = room-larger axis drawn base k s larger (begin e) (count e) in
+              let most : need e - room_for (set base k 0) e ≤ much = enough t in
               omega arith
 
-      fold-low : (xs : List Rectangle) (s : List ℕ) (much : ℕ) → Larger (own_sizes axis g es) s → LieAmong s xs → ((e : Rectangle) → Member e xs → takes axis k e ≡ true → lacking axis style g es k e ≤ much) → get_or s k 0 ≤ much → get_or (fold (grown_for axis style g) s xs) k 0 ≤ much
+      fold-low : (xs : List Rectangle) (s : List ℕ) (much : ℕ) → Larger (own_sizes axis g es) s → LieAmong s xs → ((e : Rectangle) → Member e xs → takes axis k e ≡ true → lacking axis style g es k e ≤ much) → get_or s k 0 ≤ much → get_or (fold grow s xs) k 0 ≤ much
       unfolding LieAmong
       fold-low [] s much larger all enough low = low
       fold-low (e ∷ xs) s much larger all enough low =
           let here = all e (inl refl) in
-          fold-low xs (grown_for axis style g s e) much (larger-trans (own_sizes axis g es) s (grown_for axis style g s e) larger (larger-for s e)) (lie-later s e xs all) (λ d i. enough d (inr i))
+          fold-low xs (grow s e) much (larger-trans (own_sizes axis g es) s (grow s e) larger (larger-for s e)) (lie-later s e xs all) (λ d i. enough d (inr i))
           (grown-low s e much larger here.0 here.1 (enough e (inl refl)) low)
 
       low-sizes : LieWell g.rows g.columns es → get_or (sizes axis style g es) k 0 ≤ most_asked axis style g es k

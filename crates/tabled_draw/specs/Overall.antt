@@ -2,7 +2,7 @@
 use Rattle.std.specs.Prelude.{◌≡◌, ◌+◌, ◌-◌, ◌<◌, ◌≤◌, ◌⊎◌, if◌then◌else◌, ℕ, Bool, List, [], length, max, slice_index_or, slice_set}
 use Rattle.std.specs.List.{AllByRecursion, fold, sum}
 use Rattle.tabled_draw.specs.Marks.{IsFine, IsNoControl}
-use Rattle.tabled_draw.specs.Picture.{Plan, bytes_of_lines, drawn_with, heights, left, line_height, line_width, picture, picture_lines, plan_of}
+use Rattle.tabled_draw.specs.Picture.{Plan, bytes_of_lines, drawn_with, heights, line_columns, line_height, picture, picture_lines, plan_of}
 use Rattle.tabled_draw.specs.Sizes.{asks, own_sizes, room, sizes, text_of_cell}
 use Rattle.tabled_draw.specs.Each.{is_in_range, total}
 use Rattle.tabled_draw.specs.Borders.{border}
@@ -34,9 +34,9 @@ AreNoControls line = AllByRecursion IsNoControl line
 abbrev pub HasNoControls : Plan → List Alignment → Type 0
 HasNoControls plan aligns = IsFine plan.style → AllByRecursion AreNoControls (picture_lines plan aligns)
 
--- each line takes as many columns as there are before the table's right edge, and one for that edge if it is drawn
+-- all lines take the same columns
 abbrev pub AreEquallyWide : Plan → List Alignment → Type 0
-AreEquallyWide plan aligns = IsFine plan.style → AllByRecursion (λ line. text_width line ≡ left plan plan.grid.columns + line_width plan plan.grid.columns) (picture_lines plan aligns)
+AreEquallyWide plan aligns = IsFine plan.style → AllByRecursion (λ line. text_width line ≡ line_columns plan) (picture_lines plan aligns)
 
 -- the number of lines that are drawn around the rows of a table
 abbrev pub drawn_lines : Plan → ℕ

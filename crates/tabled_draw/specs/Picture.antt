@@ -62,6 +62,10 @@ module _ (plan : Plan) where
   abbrev pub left : ℕ → ℕ
   left j = start_of Columns line_width widths j
 
+  -- the columns of each line: those before the table's right edge, and one for that edge if it is drawn
+  abbrev pub line_columns : ℕ
+  line_columns = left plan.grid.columns + line_width plan.grid.columns
+
   -- at the left edge of a column, in row u or between the rows u and d, which count from 1
   abbrev pub edge_at : ℕ → ℕ → ℕ → List ℕ
   edge_at u d j = edge plan.style (u == d) (line_width j) (owner_at u j) (owner_at u (j + 1)) (owner_at d j) (owner_at d (j + 1))

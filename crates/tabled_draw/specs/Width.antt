@@ -3,7 +3,7 @@ use Rattle.std.specs.Prelude.{◌≡◌, ◌+◌, ℕ, List, length}
 use Rattle.std.specs.List.{AllByRecursion}
 use Rattle.tabled_draw.specs.Borders.{line_size}
 use Rattle.tabled_draw.specs.Marks.{IsFine}
-use Rattle.tabled_draw.specs.Picture.{Plan, left, line_width, picture, plan_of, widths}
+use Rattle.tabled_draw.specs.Picture.{line_columns, picture, plan_of, widths}
 use Rattle.tabled_draw.specs.Sizes.{start_of}
 use Rattle.tabled_draw.specs.Texts.{text_width}
 use Rattle.tabled_draw.specs.declared.alignment.Alignment.{Alignment}
@@ -13,10 +13,6 @@ use Rattle.tabled_grid.specs.Fitting.{fitting}
 use Rattle.tabled_grid.specs.Grid.{Grid}
 use Rattle.tabled_grid.specs.Spans.{SpanMap, rectangles}
 use Rattle.tabled_grid.specs.declared.records.axis.Axis.TheVariants.{Columns}
-
--- the columns of each line of a picture: those before the table's right edge, and one for that edge if it is drawn
-abbrev pub line_columns : Plan → ℕ
-line_columns plan = left plan plan.grid.columns + line_width plan plan.grid.columns
 
 -- the columns of each line that is drawn, where of a table's merged cells those count that fit it
 unfoldable pub picture_width : Style → Grid (List ℕ) → SpanMap → ℕ
