@@ -24,12 +24,12 @@ other-column i j k less = grind (arith, nat_tests)
 other-row : (h i j : ℕ) → h < i → same_place (place h j) (place i j) ≡ false
 other-row h i j less = grind (arith, nat_tests)
 
-module _ (rows columns : ℕ) (m : SpanMap) (i : ℕ) (row : List (Option Rectangle)) (is : IsOwnerRow rows columns (rectangles m) (i + 1) row) (here : BeginHere i row) where
+module _ {rows columns : ℕ} {es : List Rectangle} (i : ℕ) {row : List (Option Rectangle)} (is : IsOwnerRow rows columns es (i + 1) row) (here : BeginHere i row) where
   pub outer-left : get_or row 0 None ≡ None
-  outer-left = is.each 0 (omega arith) ∙ owner-left rows columns (rectangles m) (i + 1)
+  outer-left = is.each 0 (omega arith) ∙ owner-left rows columns es (i + 1)
 
   pub outer-right : (j : ℕ) → j ≡ columns → get_or row (j + 1) None ≡ None
-  outer-right j last = is.each (j + 1) (omega (arith, last)) ∙ owner-right rows columns (rectangles m) (i + 1) (j + 1) (omega (arith, last))
+  outer-right j last = is.each (j + 1) (omega (arith, last)) ∙ owner-right rows columns es (i + 1) (j + 1) (omega (arith, last))
 
   pub begins-here : (j : ℕ) → j < columns → begins_at (get_or row (j + 1) None) (place i j) ≡ true
   begins-here j less = here j (omega (arith, less, is.long))
@@ -56,22 +56,22 @@ module _ (rows columns : ℕ) (m : SpanMap) (i : ℕ) (above below : List (Optio
 
   differ-right : (j : ℕ) → j ≤ columns → differ (get_or above (j + 1) None) (get_or below (j + 1) None) ≡ nat_lt j columns
   differ-right j less = elim (cases_lt j columns) [
-    | inl more ↦ differ-apart _ _ (place (i - 1) j) (place i j) (begins-here rows columns m (i - 1) above over-is first j more) (begins-here rows columns m i below under second j more) (other-row (i - 1) i j (omega (arith, some))) ∙ sym (lt-ltb j columns more)
-    | inr last ↦ ap₂ differ (outer-right rows columns m (i - 1) above over-is first j (omega (arith, less, last))) (outer-right rows columns m i below under second j (omega (arith, less, last))) ∙ sym (le-ltb j columns last)
+    | inl more ↦ differ-apart _ _ (place (i - 1) j) (place i j) (begins-here (i - 1) over-is first j more) (begins-here i under second j more) (other-row (i - 1) i j (omega (arith, some))) ∙ sym (lt-ltb j columns more)
+    | inr last ↦ ap₂ differ (outer-right (i - 1) over-is first j (omega (arith, less, last))) (outer-right i under second j (omega (arith, less, last))) ∙ sym (le-ltb j columns last)
   ]
 
   differ-left : (j : ℕ) → j ≤ columns → differ (get_or above j None) (get_or below j None) ≡ nat_lt 0 j
   differ-left j less = elim (cases_eq j 0) [
-    | inl none ↦ ap₂ differ (ap (λ k. get_or above k None) none ∙ outer-left rows columns m (i - 1) above over-is first) (ap (λ k. get_or below k None) none ∙ outer-left rows columns m i below under second) ∙ ap (nat_lt 0) (sym none)
-    | inr more ↦ differ-apart _ _ (place (i - 1) (j - 1)) (place i (j - 1)) (begins-before rows columns m (i - 1) above over-is first j (omega (arith, more)) less) (begins-before rows columns m i below under second j (omega (arith, more)) less) (other-row (i - 1) i (j - 1) (omega (arith, some))) ∙ sym (lt-ltb 0 j (omega (arith, more)))
+    | inl none ↦ ap₂ differ (ap (λ k. get_or above k None) none ∙ outer-left (i - 1) over-is first) (ap (λ k. get_or below k None) none ∙ outer-left i under second) ∙ ap (nat_lt 0) (sym none)
+    | inr more ↦ differ-apart _ _ (place (i - 1) (j - 1)) (place i (j - 1)) (begins-before (i - 1) over-is first j (omega (arith, more)) less) (begins-before i under second j (omega (arith, more)) less) (other-row (i - 1) i (j - 1) (omega (arith, some))) ∙ sym (lt-ltb 0 j (omega (arith, more)))
   ]
 
   -- at the line between two such rows no cells are merged
   pub apart-rows : i < rows → AreUnmerged rows columns i above below
   apart-rows within = record {
     each = λ j less. same-arms _ _ _ _ _ _ _ _
-        (differ-beside rows columns m (i - 1) above over-is first j less wide ∙ sym (lt-ltb 0 i some))
+        (differ-beside (i - 1) over-is first j less wide ∙ sym (lt-ltb 0 i some))
         (differ-right j less)
-        (differ-beside rows columns m i below under second j less wide ∙ sym (lt-ltb i rows within))
+        (differ-beside i under second j less wide ∙ sym (lt-ltb i rows within))
         (differ-left j less);
   }

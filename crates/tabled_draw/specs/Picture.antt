@@ -21,7 +21,7 @@ use Rattle.tabled_grid.specs.declared.config.rectangle.Rectangle.{Rectangle}
 use Rattle.tabled_grid.specs.declared.records.axis.Axis.TheVariants.{Rows, Columns}
 use Rattle.tabled_held.specs.Sent.{IsCutShort}
 
--- what a picture shows, and where: a table of texts and its merged cells, in a style
+-- what a picture shows, but for how texts are aligned: a table of texts and its merged cells, in a style
 pub record Plan : Type 0 where
   pub style : Style
   pub grid : Grid (List ℕ)

@@ -38,20 +38,16 @@ pub(crate) fn size_if(drawn: bool) -> usize
 
 /// How many lines of a picture, or columns, the k-th of the lines around n rows, or n columns, takes: one if it is drawn,
 /// else none.
-///
-/// Of this project.
 #[inline(always)]
-pub fn line_size(lines: Lines, n: usize, k: usize) -> usize
+pub(crate) fn line_size(lines: Lines, n: usize, k: usize) -> usize
     ensures { result ≡ line_size lines n k }
 {
     size_if(is_drawn(lines, n, k))
 }
 
 /// What stands beside a text: a blank before it and one after it, and nothing above and below.
-///
-/// Of this project.
 #[inline(always)]
-pub fn pad(axis: Axis) -> usize
+pub(crate) fn pad(axis: Axis) -> usize
     ensures { result ≡ pad axis }
 {
     match axis {

@@ -21,7 +21,6 @@ mod texts;
 mod width;
 
 pub use alignment::Alignment;
-pub use borders::{line_size, pad};
 pub use drawing::Drawing;
 pub use growth::room;
 pub use look::Look;

@@ -3,21 +3,17 @@
 ghost use Rattle.std.specs.Prelude.{◌≡◌, [], IfOk, OnOk};
 ghost use Rattle.std.specs.Io.KnownBytes.{Appends};
 ghost use Rattle.std.specs.String.{string_bytes};
-ghost use Rattle.tabled_draw.specs.Borders.{line_size};
 ghost use Rattle.tabled_draw.specs.Markdown.{markdown};
 ghost use Rattle.tabled_draw.specs.Picture.{drawn_with};
-ghost use Rattle.tabled_draw.specs.Sizes.{pad};
 ghost use Rattle.tabled_grid.specs.Grid.{map_grid};
-ghost use Rattle.tabled_grid.specs.declared.records.axis.Axis.TheVariants.{Columns};
 
 use std::alloc::{AllocError, Global};
 use std::io::{self, Write};
 use tabled_draw::{
-    Alignment, Drawing, Look, Style, draw_markdown, draw_with, line_size, pad, picture_width,
-    picture_with,
+    Alignment, Drawing, Look, Style, draw_markdown, draw_with, picture_width, picture_with,
 };
 use tabled_grid::config::SpannedConfig;
-use tabled_grid::records::{Axis, CellText, ExactRecords, PeekableRecords, Records};
+use tabled_grid::records::{CellText, ExactRecords, PeekableRecords, Records};
 use tabled_table::Table;
 
 /// Writes a table of names and numbers in the style that a user named, or in a modern one.
@@ -48,14 +44,6 @@ pub fn fits_page(
 ) -> Result<bool, AllocError> {
     let width = picture_width(alloc, table.get_records(), table.get_config(), style)?;
     Ok(width <= columns)
-}
-
-/// The columns that stand before the first text of a picture: those of its first border, if it is drawn, and those
-/// beside each text.
-pub fn before_first_text(style: &Style, columns: usize) -> (usize, usize)
-    ensures { result ≡ (line_size style.now.columns columns 0, pad Columns) }
-{
-    (line_size(style.columns, columns, 0), pad(Axis::Columns))
 }
 
 /// Writes a table twice, where all memory is asked for before the first byte.
