@@ -89,11 +89,11 @@ module _ {A : Type 0} (text_of : A → List ℕ) (axis : Axis) (size : ℤ) (e :
   -- what a span keeps of the merged cells of a table, the option keeps, also where it is refused
   pub option_keeps : ((m : SpanMap) (rows columns : ℕ) → P m rows columns → P (spanned axis size e rows columns m) rows columns) → OptionKeeps (λ (g : Grid A) (c : SpanMap). P c g.rows g.columns) (Spans text_of axis size e) (SpansFirst text_of axis size e)
   option_keeps keeps = record {
-    done = λ g c h d holds s.
-        let shape = shape_texts text_of (span_writes axis size e (map_grid text_of g)) g h c c s.texts refl in
-        rw (shape.0, shape.1, s.spans) (keeps c g.rows g.columns holds);
-    refused = keeps_same_or (λ (g : Grid A) (c : SpanMap). P c g.rows g.columns) (DoesFirstWrites text_of (span_writes axis size e)) (λ g c h d holds w.
-        let shape = shape_texts text_of (take w.0.count (span_writes axis size e (map_grid text_of g))) g h c d w.0.is w.1 in
+    done = λ old cfg new new_cfg holds s.
+        let shape = shape_texts text_of (span_writes axis size e (map_grid text_of old)) old new cfg cfg s.texts refl in
+        rw (shape.0, shape.1, s.spans) (keeps cfg old.rows old.columns holds);
+    refused = keeps_same_or (λ (g : Grid A) (c : SpanMap). P c g.rows g.columns) (DoesFirstWrites text_of (span_writes axis size e)) (λ old cfg new new_cfg holds w.
+        let shape = shape_texts text_of (take w.0.count (span_writes axis size e (map_grid text_of old))) old new cfg new_cfg w.0.is w.1 in
         rw (shape.0, shape.1, shape.2) holds);
   }
 

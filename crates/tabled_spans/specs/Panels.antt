@@ -36,7 +36,7 @@ abbrev pub has_room : {A : Type 0} → Axis → ℕ → Grid A → SpanMap → B
 has_room axis line g m = nat_le line (count_along axis g) && (nat_lt 0 (cells_along axis g) && not (is_crossed axis line m))
 
 -- a panel before a line, where it may stand, and else nothing
-pub record Panels {A : Type 0} (is_blank : A → Type 0) (text_of : A → List ℕ) (axis : Axis) (line : ℕ) (text : List ℕ) (g : Grid A) (m : SpanMap) (h : Grid A) (n : SpanMap) : Type 0 where
-  pub puts : has_room axis line g m ≡ true → PutsIn is_blank text_of axis line text g h
-  pub merges : has_room axis line g m ≡ true → n ≡ with_panel axis line (cells_along axis g) m
-  pub leaves : has_room axis line g m ≡ false → Same g m h n
+pub record Panels {A : Type 0} (is_blank : A → Type 0) (text_of : A → List ℕ) (axis : Axis) (line : ℕ) (text : List ℕ) (old : Grid A) (cfg : SpanMap) (new : Grid A) (new_cfg : SpanMap) : Type 0 where
+  pub puts : has_room axis line old cfg ≡ true → PutsIn is_blank text_of axis line text old new
+  pub merges : has_room axis line old cfg ≡ true → new_cfg ≡ with_panel axis line (cells_along axis old) cfg
+  pub leaves : has_room axis line old cfg ≡ false → Same old cfg new new_cfg

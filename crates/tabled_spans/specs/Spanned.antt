@@ -102,10 +102,10 @@ span_writes axis (pos (suc size)) e g = []
 span_writes axis size e g = pull_writes_on axis (back_of size) e g
 
 -- what a span of a size does on an entity
-pub record Spans {A : Type 0} (text_of : A → List ℕ) (axis : Axis) (size : ℤ) (e : Entity) (g : Grid A) (c : SpanMap) (h : Grid A) (k : SpanMap) : Type 0 where
-  pub texts : map_grid text_of h ≡ with_writes (span_writes axis size e (map_grid text_of g)) (map_grid text_of g)
-  pub cells : pos 0 <ℤ size → h ≡ g
-  pub spans : k ≡ spanned axis size e g.rows g.columns c
+pub record Spans {A : Type 0} (text_of : A → List ℕ) (axis : Axis) (size : ℤ) (e : Entity) (old : Grid A) (cfg : SpanMap) (new : Grid A) (new_cfg : SpanMap) : Type 0 where
+  pub texts : map_grid text_of new ≡ with_writes (span_writes axis size e (map_grid text_of old)) (map_grid text_of old)
+  pub cells : pos 0 <ℤ size → new ≡ old
+  pub spans : new_cfg ≡ spanned axis size e old.rows old.columns cfg
 
 -- what it leaves where it is refused: all as it was, or the writes before one of its own, with the merged cells as they were
 abbrev pub SpansFirst : {A : Type 0} → (A → List ℕ) → Axis → ℤ → Entity → Change A SpanMap
