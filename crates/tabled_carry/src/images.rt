@@ -12,34 +12,33 @@ ghost use Rattle.tabled_carry.specs.Images.{Carries, HasArea, Takes};
 
 use tabled_grid::config::{Position, Rectangle, Size};
 
-/// Where the cells of a table go when they move, and where they come from. No cell goes to two places.
+/// Where the cells of a table go when they move, and where they come from.
 pub trait Moves {
     /// The new shape, and for each new place its old place or none.
     ghost places: { Self → Places };
-
-    /// The new place of the cell at an old place, if it has one.
-    fn new_place(&self, pos: Position) -> Option<Position>
-        ensures takes { IfSome result (λ p. Takes (places self.now) p pos) }
-        ensures row { IfSome result (λ p. p.row + 1 < 2 ^ 64) }
-        ensures col { IfSome result (λ p. p.col + 1 < 2 ^ 64) }
-        ensures finds { (p : Position) → Takes (places self.now) p pos → result ≡ Some p };
 }
 
-/// Moves that tell where the cells of a rectangle go, too, which may be known without a look at each.
+/// Moves that tell where a cell goes. None goes to two places.
+pub trait MovesCells: Moves {
+    /// The new place of the cell at an old place, if it has one.
+    fn new_place(&self, pos: Position) -> Option<Position>
+        ensures takes { IfSome result (λ p. Takes (Self.places self.now) p pos) }
+        ensures row { IfSome result (λ p. p.row + 1 < 2 ^ 64) }
+        ensures col { IfSome result (λ p. p.col + 1 < 2 ^ 64) }
+        ensures finds { (p : Position) → Takes (Self.places self.now) p pos → result ≡ Some p };
+}
+
+/// Moves that tell where the cells of a rectangle go: by the new place of each, as `image_of` finds, or
+/// without a look at each.
 pub trait MovesRectangles: Moves {
     /// The rectangle that a rectangle is carried to, if there is one.
-    ///
-    /// By default it looks at the new place of each cell.
     fn new_rectangle(&self, of: Rectangle) -> Option<Rectangle>
         requires full { HasArea of }
         requires bottom { of.first.row + of.size.height < 2 ^ 64 }
         requires right { of.first.col + of.size.width < 2 ^ 64 }
         ensures carries { IfSome result (λ f. Carries (Self.places self.now) of f) }
         ensures full { IfSome result HasArea }
-        ensures finds { (f : Rectangle) → Carries (Self.places self.now) of f → HasArea f → result ≡ Some f }
-    {
-        image_of(self, of)
-    }
+        ensures finds { (f : Rectangle) → Carries (Self.places self.now) of f → HasArea f → result ≡ Some f };
 }
 
 /// The first row and column of some places, and the last ones.
@@ -63,7 +62,7 @@ impl Corners {
 }
 
 /// The corners of the new places of all cells of a rectangle, if each has one.
-fn around<M: Moves>(moves: &M, of: Rectangle) -> Option<Corners>
+fn around<M: MovesCells>(moves: &M, of: Rectangle) -> Option<Corners>
     requires full { HasArea of }
     requires bottom { of.first.row + of.size.height < 2 ^ 64 }
     requires right { of.first.col + of.size.width < 2 ^ 64 }
@@ -95,7 +94,7 @@ fn count_of(rectangle: Rectangle) -> u128
 }
 
 /// The rectangle that a rectangle is carried to, if there is one, by the new place of each cell.
-pub fn image_of<M: Moves>(moves: &M, of: Rectangle) -> Option<Rectangle>
+pub fn image_of<M: MovesCells>(moves: &M, of: Rectangle) -> Option<Rectangle>
     requires full { HasArea of }
     requires bottom { of.first.row + of.size.height < 2 ^ 64 }
     requires right { of.first.col + of.size.width < 2 ^ 64 }

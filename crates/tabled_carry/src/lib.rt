@@ -1,11 +1,11 @@
 //! Merged cells, carried along when cells move.
 #![tactic(auto)]
 
-mod carry;
-mod cuts;
+mod fitting_spans;
 mod images;
 pub mod laws;
+mod line_pieces;
 mod sort;
 
-pub use carry::FittingSpans;
-pub use images::{Moves, MovesRectangles, image_of};
+pub use fitting_spans::FittingSpans;
+pub use images::{Moves, MovesCells, MovesRectangles, image_of};

@@ -51,14 +51,14 @@ pub use Rattle.tabled_select.proofs.Common.{◌%◌, AlwaysYields, FoldsTo, IfOk
 pub use Rattle.tabled_settings.specs.Charsets.{IsCleanByte, byte_stays, charset_writes, clean_text, is_set, mapped_writes, recoded, replaced, with_tabs}
 pub use Rattle.tabled_settings.specs.Contents.{AnswersContent, Asked, AskedAt, AskedByLine, AskedInTurn, joined_lines}
 pub use Rattle.tabled_settings.specs.Dups.{Duplicates, DuplicatesFirst, dup_writes, round_from, round_writes, rounds, source_texts}
-pub use Rattle.tabled_settings.specs.Joined.{FillsTo, GrowsTo, HasBlank, JoinsAt, JoinsTables, as_texts, corner_of, joined_places, text_put}
+pub use Rattle.tabled_settings.specs.Joined.{FillsTo, GrowsTo, HasBlank, JoinsAt, JoinsTables, as_texts, corner_of, joined_places, text_of_joint, text_put}
 pub use Rattle.tabled_settings.specs.Lines.{BringsLines, HasLines, KeepsLines, ReversesEnds, ReversesLines, indexes_in, is_marked, line_cells}
-pub use Rattle.tabled_settings.specs.PiecePlaces.{Splits, SplitsTable, glue_rows, glued, glued_line, kept_pieces, same_places, shown_lines, split_places, texts_along, thinned}
+pub use Rattle.tabled_settings.specs.PiecePlaces.{Splits, SplitsTable, glue_rows, glued, glued_line, same_places, shown_lines, split_places, staying_pieces, texts_along, thinned}
 pub use Rattle.tabled_settings.specs.PieceTexts.{has_text}
 pub use Rattle.tabled_settings.specs.Pieces.{clean_split, cut_rows, has_pieces, is_text, oriented, piece, piece_at, split, staying, stays, stays_at}
-pub use Rattle.tabled_settings.specs.Places.{IsTakenOnce, lines_from}
-pub use Rattle.tabled_settings.specs.Rearranged.{Rearranges, Removes, ReversesTable, carried_if, columns_if, count_in, extracted, half_rotated, kept_lines, left_over, limit_end, part, quarter_of, removed, reversed, reversed_index, reverses, rotated, upside_down}
+pub use Rattle.tabled_settings.specs.Rearranged.{Rearranges, Removes, ReversesTable, carried_if, columns_if, count_in, extracted, half_rotated, kept_lines, left_over, limit_end, lines_from, part, quarter_of, removed, reversed, reversed_index, reverses, rotated, upside_down}
 pub use Rattle.tabled_settings.specs.Rewrites.{AnswersInTurn, Asking, Rewrites, RewritesAt, RewritesBefore, RewritesUntil}
+pub use Rattle.tabled_settings.specs.TakenOnce.{IsTakenOnce}
 pub use Rattle.tabled_settings.specs.Wraps.{wrap_writes}
 pub use Rattle.tabled_width.specs.Wraps.{wrapped}
 pub use Rattle.tabled_settings.specs.declared.rotate.Rotate.{Rotate}

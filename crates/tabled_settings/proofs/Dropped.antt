@@ -1,7 +1,7 @@
 -- The indexes that are left, and rows of which these come to the front.
 use Rattle.tabled_settings.proofs.Common.{[], ◌++◌, ◌+◌, ◌-◌, ◌<◌, ◌∙◌, ◌∷◌, ◌≡◌, ◌≤◌, ◌⊎◌, Bool, BringsLines, Columns, Grid, IsEven, List, add-one, ap, ap₂, arith, cases_Bool, cond, false, filter, filter-append, get_or, get_or_at, inl, inr, left_over, length, length-append, length_push, map, map-id, map-map, not, range_with_len, refl, subst, suc, swap, sym, true, zero, ℕ}
 use Rattle.std.proofs.lemmas.List.{append-nil}
-use Rattle.tabled_settings.proofs.Kept.{brings_more, brings_none}
+use Rattle.tabled_settings.proofs.KeptLines.{brings_more, brings_none}
 use Rattle.tabled_settings.proofs.PieceReads.{filter_alike, filter_below, filter_more, range_split}
 use Rattle.tabled_settings.proofs.RisingLists.{left_rises, length_within}
 
@@ -69,14 +69,14 @@ module _ {A : Type 0} (test : ℕ → Bool) where
   -- the columns of such rows
   pub thinned_rows : (n i : ℕ) (g : Grid A) → IsEven g → i ≤ n → n ≤ g.columns → BringsLines Columns (left_over test n) (length (left_over test i)) g (record g { cells = map (thinned test i) g.cells })
   thinned_rows n zero g even few within = subst (λ (rows : List (List A)). BringsLines Columns (left_over test n) 0 g (record g { cells = rows })) (sym (maps_alike _ _ thinned-none g.cells ∙ map-id g.cells)) (brings_none Columns (left_over test n) g even)
-  thinned_rows n (suc i) g even few within = by (cases_Bool (test i)) (thinned_rows n i g even (omega (arith, few)) within)
+  thinned_rows n (suc i) g even few within = next_column (cases_Bool (test i)) (thinned_rows n i g even (omega (arith, few)) within)
     where
       at : (xs : List A) → thinned test (suc i) xs ≡ thinned test (i + 1) xs
       at xs = ap (λ (n : ℕ). thinned test n xs) (sym (add-one i))
 
-      by : (test i ≡ true) ⊎ (test i ≡ false) → BringsLines Columns (left_over test n) (length (left_over test i)) g (thinned_grid i g) → BringsLines Columns (left_over test n) (length (left_over test (suc i))) g (thinned_grid (suc i) g)
-      by (inl gone) old = rw (left_gone test i gone, maps_alike _ _ (λ xs. at xs ∙ thinned-gone i gone xs) g.cells) old
-      by (inr stays) old =
+      next_column : (test i ≡ true) ⊎ (test i ≡ false) → BringsLines Columns (left_over test n) (length (left_over test i)) g (thinned_grid i g) → BringsLines Columns (left_over test n) (length (left_over test (suc i))) g (thinned_grid (suc i) g)
+      next_column (inl gone) old = rw (left_gone test i gone, maps_alike _ _ (λ xs. at xs ∙ thinned-gone i gone xs) g.cells) old
+      next_column (inr stays) old =
           let rows : map (thinned test (suc i)) g.cells ≡ map (λ (xs : List A). swap xs (length (left_over test i)) i) (thinned_grid i g).cells = maps_alike _ _ (λ xs. at xs ∙ thinned-kept i (length (left_over test i)) refl stays xs) g.cells ∙ sym (map-map _ _ g.cells) in
           let many : length (left_over test (suc i)) ≡ length (left_over test i) + 1 = ap length (left_stays test i stays) ∙ length_push (left_over test i) i in
           let next = left_at test i n (omega (arith, few)) stays in

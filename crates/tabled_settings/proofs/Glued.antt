@@ -137,7 +137,7 @@ has_if s g b e some index = rw (counted s.lines g, counted (across s.lines) g, l
 
 pub split_glued : (s : Split) (g h : Grid (List ℕ)) → IsEven g → s.display ≡ Retain → 0 < g.rows → 0 < g.columns → 0 < s.index → h ≡ split s g → glued s g.rows g.columns h ≡ g
 split_glued s g h even retained some_rows some_columns index is =
-    rw (counted s.lines g, counted (across s.lines) g) (ap (oriented s.lines) (either (nat_lt s.index (count_along (across s.lines) g)) refl) ∙ turned_twice s.lines g even some any)
+    rw (counted s.lines g, counted (across s.lines) g) (ap (oriented s.lines) (lines_glued (nat_lt s.index (count_along (across s.lines) g)) refl) ∙ turned_twice s.lines g even some any)
   where
     some_of : (axis : Axis) → 0 < count_along axis g
     some_of Rows = some_rows
@@ -161,8 +161,8 @@ split_glued s g h even retained some_rows some_columns index is =
     wide : (oriented s.lines g).columns ≡ count_along (across s.lines) g
     wide = turned_columns s.lines g some
 
-    either : (b : Bool) → nat_lt s.index (count_along (across s.lines) g) ≡ b → glue_rows s (count_along s.lines g) (count_along (across s.lines) g) (oriented s.lines h) ≡ oriented s.lines g
-    either true e =
+    lines_glued : (b : Bool) → nat_lt s.index (count_along (across s.lines) g) ≡ b → glue_rows s (count_along s.lines g) (count_along (across s.lines) g) (oriented s.lines h) ≡ oriented s.lines g
+    lines_glued true e =
         let narrow : s.index < (oriented s.lines g).columns = omega (arith, ltb-true s.index (count_along (across s.lines) g) e, wide) in
         let cut : Grid (List ℕ) = cut_rows s (oriented s.lines g) in
         let made : h ≡ oriented s.lines (cut_rows s (oriented s.lines g)) = is ∙ ap (λ (b : Bool). cond b (oriented s.lines (cut_rows s (oriented s.lines g))) g) (has_if s g true e some index) in
@@ -172,7 +172,7 @@ split_glued s g h even retained some_rows some_columns index is =
       where
         more_some : (a b : ℕ) → 0 < a → 0 < b → 0 < a * b
         more_some a b k l = omega (arith, row_fits 0 a b a l (omega arith), k)
-    either false e =
+    lines_glued false e =
         let short : (oriented s.lines g).columns ≤ s.index = omega (arith, ltb-false s.index (count_along (across s.lines) g) e, wide) in
         let same : h ≡ g = is ∙ ap (λ (b : Bool). cond b (oriented s.lines (cut_rows s (oriented s.lines g))) g) (has_if s g false e some index) in
         ap₂ (λ (r c : ℕ). glue_rows s r c (oriented s.lines h)) (sym high) (sym wide)

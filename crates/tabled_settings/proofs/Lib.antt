@@ -4,7 +4,7 @@ pub mod Dropped
 pub mod Duplicated
 pub mod Glued
 pub mod Joins
-pub mod Kept
+pub mod KeptLines
 pub mod LineReads
 pub mod Mapped
 pub mod MirroredParts

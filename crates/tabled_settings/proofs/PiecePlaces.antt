@@ -1,6 +1,6 @@
 -- Where the cells of pieces come from, and where they go.
 use Rattle.std.proofs.lemmas.Grind.{common_steps}
-use Rattle.tabled_settings.proofs.Common.{[], ◌<◌, ◌∙◌, ◌≡◌, Axis, Bool, Clean, Columns, Display, FillsThrough, Grid, IfSome, IsCut, IsEven, IsInside, IsTakenOnce, KeepsLines, List, Option, Places, Position, ReadsThrough, Retain, Rows, SpanMap, Split, Splits, across, ap, ap₂, arith, carried, carried_if, cell_at, cond, count_along, count_of, cut_places, false, fills_cut, get_or, has_pieces, in_line, kept_pieces, length, line_cells, line_of, lines_from, map_grid, oriented, refl, same_places, shown_lines, split_places, subst, sym, thinned, true, true≢false, unwrap_or, ℕ}
+use Rattle.tabled_settings.proofs.Common.{[], ◌<◌, ◌∙◌, ◌≡◌, Axis, Bool, Clean, Columns, Display, FillsThrough, Grid, IfSome, IsCut, IsEven, IsInside, IsTakenOnce, KeepsLines, List, Option, Places, Position, ReadsThrough, Retain, Rows, SpanMap, Split, Splits, across, ap, ap₂, arith, carried, carried_if, cell_at, cond, count_along, count_of, cut_places, false, fills_cut, get_or, has_pieces, in_line, staying_pieces, length, line_cells, line_of, lines_from, map_grid, oriented, refl, same_places, shown_lines, split_places, subst, sym, thinned, true, true≢false, unwrap_or, ℕ}
 use Rattle.tabled_grid.proofs.PiecePlaces.{goes_once}
 use Rattle.tabled_settings.proofs.LineReads.{counted, lines_read}
 use Rattle.tabled_settings.proofs.PiecesDone.{CanBeCut, clean_counts, clean_done, clean_lines, has, pieces_need, retained_done}
@@ -56,7 +56,7 @@ module _ {A : Type 0} (text_of : A → List ℕ) (s : Split) (lines width : ℕ)
   pub retained_places : s.display ≡ Retain → cut_places s.lines s.behavior s.index lines width ≡ split_places s (map_grid text_of g)
   retained_places e = all_places ∙ sym (with_pieces (has_pieces s g.rows g.columns) _ (same_places g.rows g.columns) is_cut ∙ all_shown s.display s.lines _ _ e)
 
-  pub clean_places : (kept : List ℕ) → s.display ≡ Clean → kept ≡ kept_pieces s (oriented s.lines (map_grid text_of g)) → thinned s.lines kept (cut_places s.lines s.behavior s.index lines width) ≡ split_places s (map_grid text_of g)
+  pub clean_places : (kept : List ℕ) → s.display ≡ Clean → kept ≡ staying_pieces s (oriented s.lines (map_grid text_of g)) → thinned s.lines kept (cut_places s.lines s.behavior s.index lines width) ≡ split_places s (map_grid text_of g)
   clean_places kept e are = grind (arith, common_steps, all_places, with_pieces, is_cut, some_shown)
 
   -- merged cells go along
@@ -75,7 +75,7 @@ module _ {A : Type 0} (text_of : A → List ℕ) (s : Split) (lines width : ℕ)
       unsplit = λ none. absurd (true≢false (sym is_cut ∙ none));
     }
 
-    module _ (new : Grid A) (kept : List ℕ) (e : s.display ≡ Clean) (are : kept ≡ kept_pieces s (oriented s.lines (map_grid text_of g))) (k : KeepsLines s.lines kept mid new) where
+    module _ (new : Grid A) (kept : List ℕ) (e : s.display ≡ Clean) (are : kept ≡ staying_pieces s (oriented s.lines (map_grid text_of g))) (k : KeepsLines s.lines kept mid new) where
       counts : (count_along s.lines new ≡ length kept) × (count_along (across s.lines) new ≡ count_along (across s.lines) mid)
       counts = clean_counts text_of s lines width g can is_blank blank_empty mid cut new kept are e k
 
@@ -88,7 +88,7 @@ module _ {A : Type 0} (text_of : A → List ℕ) (s : Split) (lines width : ℕ)
       }
 
 pub split_once : (s : Split) (g : Grid (List ℕ)) (q : Position) → s.display ≡ Retain → q.row < g.rows → q.col < g.columns → IsTakenOnce (split_places s g) q
-split_once s g q retained h k = either (has_pieces s g.rows g.columns) refl
+split_once s g q retained h k = taken_once (has_pieces s g.rows g.columns) refl
   where
     all : Places
     all = cut_places s.lines s.behavior s.index (count_of s.lines g.rows g.columns) (count_of (across s.lines) g.rows g.columns)
@@ -97,12 +97,12 @@ split_once s g q retained h k = either (has_pieces s g.rows g.columns) refl
     lines_of Rows = (h, k)
     lines_of Columns = (k, h)
 
-    either : (b : Bool) → has_pieces s g.rows g.columns ≡ b → IsTakenOnce (cond b (shown_lines s.display s.lines (kept_pieces s (oriented s.lines g)) all) (same_places g.rows g.columns)) q
-    either true e =
+    taken_once : (b : Bool) → has_pieces s g.rows g.columns ≡ b → IsTakenOnce (cond b (shown_lines s.display s.lines (staying_pieces s (oriented s.lines g)) all) (same_places g.rows g.columns)) q
+    taken_once true e =
         let need = pieces_need s g e in
         let some : 0 < count_of s.lines g.rows g.columns = omega (arith, (lines_of s.lines).0) in
         let narrow = rw (← counted (across s.lines) g) at need.2 in
         let goes = goes_once s.lines s.behavior s.index _ _ some need.1 narrow q (lines_of s.lines).0 (lines_of s.lines).1 in
-        subst (λ (places : Places). IsTakenOnce places q) (sym (all_shown s.display s.lines (kept_pieces s (oriented s.lines g)) all retained))
+        subst (λ (places : Places). IsTakenOnce places q) (sym (all_shown s.display s.lines (staying_pieces s (oriented s.lines g)) all retained))
         (record { to = _; row = goes.0.row; col = goes.0.col; takes = goes.1; alone = λ p row col. goes.2 p (record { row = row; col = col }) })
-    either false e = record { to = q; row = h; col = k; takes = refl; alone = λ p at_row at_col is. ap (λ (o : Option Position). unwrap_or o p) is }
+    taken_once false e = record { to = q; row = h; col = k; takes = refl; alone = λ p at_row at_col is. ap (λ (o : Option Position). unwrap_or o p) is }

@@ -1,8 +1,8 @@
 -- The texts of lines that are pieces.
 use Rattle.std.proofs.lemmas.Grind.{common_steps}
-use Rattle.tabled_settings.proofs.Common.{[], ◌*◌, ◌+◌, ◌-◌, ◌<◌, ◌∙◌, ◌≡◌, ◌≢◌, ◌≤◌, ◌⊎◌, Axis, Bool, Clean, Columns, ComesFrom, Display, Grid, IsCut, IsEven, IsEven-map_grid, IsInside, IsStrictlyIncreasing, IsStrictlyIncreasing-filter, KeepsLines, List, None, Option, Retain, Rows, Some, Split, across, ap, ap₂, arith, cases_lt, cell_at, cell_at-map_grid, cell_at-map_grid_some, clean_split, cond, count_along, count_of, div_ceil, enough_pieces, eqb, false, filter, get_or, get_or-range_with_len, get_or_default, has_pieces, has_text, inl, inr, inside_of, is_text, kept_pieces, length, length-range_with_len, line_cells, list_any, lt-ltb, ltb-true, map_grid, min, ne_eqb, nth_piece, option_map, oriented, piece_at, piece_line, place_in, range_with_len, refl, some_pieces, source, split, staying, stays, stays_at, subst, sym, true, unwrap_or, unwrap_or-slice_get, ℕ}
+use Rattle.tabled_settings.proofs.Common.{[], ◌*◌, ◌+◌, ◌-◌, ◌<◌, ◌∙◌, ◌≡◌, ◌≢◌, ◌≤◌, ◌⊎◌, Axis, Bool, Clean, Columns, ComesFrom, Display, Grid, IsCut, IsEven, IsEven-map_grid, IsInside, IsStrictlyIncreasing, IsStrictlyIncreasing-filter, KeepsLines, List, None, Option, Retain, Rows, Some, Split, across, ap, ap₂, arith, cases_lt, cell_at, cell_at-map_grid, cell_at-map_grid_some, clean_split, cond, count_along, count_of, div_ceil, enough_pieces, eqb, false, filter, get_or, get_or-range_with_len, get_or_default, has_pieces, has_text, inl, inr, inside_of, is_text, staying_pieces, length, length-range_with_len, line_cells, list_any, lt-ltb, ltb-true, map_grid, min, ne_eqb, nth_piece, option_map, oriented, piece_at, piece_line, place_in, range_with_len, refl, some_pieces, source, split, staying, stays, stays_at, subst, sym, true, unwrap_or, unwrap_or-slice_get, ℕ}
 use Rattle.std.proofs.lemmas.List.Folds.{list_any_at, list_any_none}
-use Rattle.tabled_grid.specs.declared.records.pieces.Cut.{Cut}
+use Rattle.tabled_grid.specs.declared.records.pieces.LinePieces.{LinePieces}
 use Rattle.tabled_settings.proofs.LineReads.{counted}
 use Rattle.tabled_settings.proofs.SameCells.{none_outside}
 use Rattle.tabled_settings.proofs.PieceReads.{all_retained, at_line, filter_below, filter_some, first_number, length-piece, piece_text, pieces_are, some_inside, turned_cell, turned_columns, turned_even, turned_rows}
@@ -33,8 +33,8 @@ pub record CanBeCut {A : Type 0} (s : Split) (lines width : ℕ) (g : Grid A) : 
   pub index : 0 < s.index
   pub narrow : s.index < width
 
-pub can_be_cut : {A : Type 0} (cut : Cut) (g : Grid A) → IsEven g → cut.lines ≡ count_along cut.axis g → cut.width ≡ count_along (across cut.axis) g → CanBeCut (clean_split cut) cut.lines cut.width g
-can_be_cut cut g even count wide = record { even = even; count = count; wide = wide; some = cut.some; index = cut.some_cells; narrow = cut.narrow }
+pub can_be_cut : {A : Type 0} (t : LinePieces) (g : Grid A) → IsEven g → t.lines ≡ count_along t.axis g → t.width ≡ count_along (across t.axis) g → CanBeCut (clean_split t) t.lines t.width g
+can_be_cut t g even count wide = record { even = even; count = count; wide = wide; some = t.some; index = t.some_cells; narrow = t.narrow }
 
 module _ {A : Type 0} (text_of : A → List ℕ) (s : Split) (lines width : ℕ) (g : Grid A) (can : CanBeCut s lines width g) where
   abbrev pieces : ℕ
@@ -72,14 +72,14 @@ module _ {A : Type 0} (text_of : A → List ℕ) (s : Split) (lines width : ℕ)
       ∙ ap (λ (m : ℕ). unwrap_or (cell_at texts (source s.lines s.behavior s.index m pieces t b)) none) long
 
   -- the pieces that stay, by number
-  pub staying_is : kept_pieces s (oriented s.lines texts) ≡ filter (stays_at s pieces rows) (range_with_len 0 (lines * pieces))
+  pub staying_is : staying_pieces s (oriented s.lines texts) ≡ filter (stays_at s pieces rows) (range_with_len 0 (lines * pieces))
   staying_is = grind (arith, common_steps, turned_columns, texts_lines, texts_width, long)
 
-  pub kept_rising : IsStrictlyIncreasing (kept_pieces s (oriented s.lines texts))
-  kept_rising = subst IsStrictlyIncreasing (sym staying_is) (IsStrictlyIncreasing-filter (stays_at s pieces rows) (range_with_len 0 (lines * pieces)) (range_rises 0 (lines * pieces)))
+  pub staying_rising : IsStrictlyIncreasing (staying_pieces s (oriented s.lines texts))
+  staying_rising = subst IsStrictlyIncreasing (sym staying_is) (IsStrictlyIncreasing-filter (stays_at s pieces rows) (range_with_len 0 (lines * pieces)) (range_rises 0 (lines * pieces)))
 
-  pub kept_below : (a : ℕ) → a < length (kept_pieces s (oriented s.lines texts)) → get_or (kept_pieces s (oriented s.lines texts)) a 0 < lines * pieces
-  kept_below = subst (λ (ts : List ℕ). (a : ℕ) → a < length ts → get_or ts a 0 < lines * pieces) (sym staying_is) (filter_below (stays_at s pieces rows) (lines * pieces))
+  pub staying_below : (a : ℕ) → a < length (staying_pieces s (oriented s.lines texts)) → get_or (staying_pieces s (oriented s.lines texts)) a 0 < lines * pieces
+  staying_below = subst (λ (ts : List ℕ). (a : ℕ) → a < length ts → get_or ts a 0 < lines * pieces) (sym staying_is) (filter_below (stays_at s pieces rows) (lines * pieces))
 
   -- where the first pieces of all lines stay, and of the others those with a text
   module _ (clean : s.display ≡ Clean) (t : ℕ) where
@@ -130,15 +130,15 @@ module _ {A : Type 0} (text_of : A → List ℕ) (s : Split) (lines width : ℕ)
             let no_text : List ℕ = [] in
             ap (λ (o : Option (List ℕ)). is_text (unwrap_or o no_text)) (past_line s.lines texts (nth_piece s.behavior lines pieces t).0 (start + b) texts_even (omega (arith, texts_width, h)))
 
-        either : (b : ℕ) → b < s.index → ((start + b) < width) ⊎ (width ≤ (start + b)) →
+        text_free : (b : ℕ) → b < s.index → ((start + b) < width) ⊎ (width ≤ (start + b)) →
             text_at (start + b) ≡ false
-        either b h (inl below) = none (start + b) (omega arith) (omega (arith, h)) below
-        either b h (inr h2) = past b h2
+        text_free b h (inl below) = none (start + b) (omega arith) (omega (arith, h)) below
+        text_free b h (inr h2) = past b h2
 
         each : (b : ℕ) (d : List ℕ) → b < s.index → is_text (get_or (piece_at s pieces rows t) b d) ≡ false
         each b d h =
             ap is_text (get_or_default (piece_at s pieces rows t) b d [] (omega (arith, h, wide)) ∙ piece_read t b h)
-            ∙ either b h (cases_lt (start + b) width)
+            ∙ text_free b h (cases_lt (start + b) width)
 
     pub others_stay : (found : Bool) (n : ℕ) → number ≢ 0 → n ≡ min s.index (width - start) → (found ≡ true → (j : ℕ) × (start ≤ j) × (j < start + n) × (text_at j ≡ true)) → (found ≡ false → (j : ℕ) → start ≤ j → j < start + n → text_at j ≡ false) → found ≡ stays_at s pieces rows t
     others_stay true n later e has none = let h = has refl in sym (text_stays h.0 h.1 (omega (arith, h.2, e)) h.3)
@@ -155,7 +155,7 @@ module _ {A : Type 0} (text_of : A → List ℕ) (s : Split) (lines width : ℕ)
 
   module _ (is_blank : A → Type 0) (blank_empty : (c : A) → is_blank c → text_of c ≡ []) (mid : Grid A) (cut : IsCut is_blank s.lines s.behavior s.index lines width g mid) where
     mid_text : (t b : ℕ) → t < lines * pieces → b < s.index → cell_at (map_grid text_of mid) (place_in s.lines t b) ≡ Some (get_or (piece_at s pieces rows t) b [])
-    mid_text t b h k = either (cases_lt j width) ∙ ap Some (sym (piece_read t b k))
+    mid_text t b h k = text_read (cases_lt j width) ∙ ap Some (sym (piece_read t b k))
       where
         j : ℕ
         j = (nth_piece s.behavior lines pieces t).1 * s.index + b
@@ -163,15 +163,15 @@ module _ {A : Type 0} (text_of : A → List ℕ) (s : Split) (lines width : ℕ)
         comes : ComesFrom is_blank g mid (source s.lines s.behavior s.index lines pieces t b) (place_in s.lines t b) ((nth_piece s.behavior lines pieces t).1 * s.index + b) width
         comes = cut.cells t b h k
 
-        either : (((nth_piece s.behavior lines pieces t).1 * s.index + b) < width) ⊎ (width ≤ ((nth_piece s.behavior lines pieces t).1 * s.index + b)) → cell_at (map_grid text_of mid) (place_in s.lines t b) ≡ Some (unwrap_or (cell_at texts (source s.lines s.behavior s.index lines pieces t b)) [])
-        either (inl below) =
+        text_read : (((nth_piece s.behavior lines pieces t).1 * s.index + b) < width) ⊎ (width ≤ ((nth_piece s.behavior lines pieces t).1 * s.index + b)) → cell_at (map_grid text_of mid) (place_in s.lines t b) ≡ Some (unwrap_or (cell_at texts (source s.lines s.behavior s.index lines pieces t b)) [])
+        text_read (inl below) =
             let none : List ℕ = [] in
             let at : IsInside texts (source s.lines s.behavior s.index lines pieces t b) = inside_of s.lines texts (nth_piece s.behavior lines pieces t).0 ((nth_piece s.behavior lines pieces t).1 * s.index + b) (omega (arith, texts_lines, piece_line s.behavior lines pieces t can.some any h)) (omega (arith, texts_width, below)) in
             cell_at-map_grid text_of mid (place_in s.lines t b)
             ∙ ap (option_map text_of) (comes.cell below)
             ∙ sym (cell_at-map_grid text_of g (source s.lines s.behavior s.index lines pieces t b))
             ∙ some_inside texts (source s.lines s.behavior s.index lines pieces t b) none texts_even at
-        either (inr past) =
+        text_read (inr past) =
             let none : List ℕ = [] in
             let c = comes.blank past in
             cell_at-map_grid_some text_of mid (place_in s.lines t b) c.0 c.2
@@ -203,7 +203,7 @@ module _ {A : Type 0} (text_of : A → List ℕ) (s : Split) (lines width : ℕ)
         let at : get_or (range_with_len 0 (lines * pieces)) a 0 ≡ a = omega (arith, read) in
         (ap (λ (m : ℕ). cell_at mid (place_in s.lines m b)) (sym at), omega (arith, at, below)))
 
-    module _ (new : Grid A) (kept : List ℕ) (are : kept ≡ kept_pieces s (oriented s.lines texts)) (clean : s.display ≡ Clean) (k : KeepsLines s.lines kept mid new) where
+    module _ (new : Grid A) (kept : List ℕ) (are : kept ≡ staying_pieces s (oriented s.lines texts)) (clean : s.display ≡ Clean) (k : KeepsLines s.lines kept mid new) where
       all_kept : kept ≡ filter (stays_at s pieces rows) (range_with_len 0 (lines * pieces))
       all_kept = are ∙ staying_is
 
@@ -211,7 +211,7 @@ module _ {A : Type 0} (text_of : A → List ℕ) (s : Split) (lines width : ℕ)
       clean_counts = grind (arith, common_steps, any, filter_some, first_stays, first_number, all_kept, as_wide)
 
       below : (a : ℕ) → a < length kept → get_or kept a 0 < lines * pieces
-      below = subst (λ (ts : List ℕ). (a : ℕ) → a < length ts → get_or ts a 0 < lines * pieces) (sym are) kept_below
+      below = subst (λ (ts : List ℕ). (a : ℕ) → a < length ts → get_or ts a 0 < lines * pieces) (sym are) staying_below
 
       pub clean_lines : (a : ℕ) → a < length kept → (line_cells s.lines new a ≡ line_cells s.lines mid (get_or kept a 0)) × (get_or kept a 0 < count_along s.lines mid)
       clean_lines a h = (k.each a h, omega (arith, below a h, cut.count))

@@ -2,7 +2,7 @@
 use Rattle.std.proofs.lemmas.Grind.{common_steps}
 use Rattle.tabled_settings.proofs.Common.{◌∙◌, ◌≡◌, Axis, Bool, Grid, KeepsLines, List, Places, ReadsThrough, SpanMap, TellsLocated, ap, ap₂, arith, carried, count_along, is_marked, kept_lines, left_over, length, removed, subst, ℕ}
 use Rattle.tabled_settings.proofs.Dropped.{left_same}
-use Rattle.tabled_settings.proofs.Kept.{kept_read}
+use Rattle.tabled_settings.proofs.KeptLines.{kept_read}
 use Rattle.tabled_settings.proofs.LineReads.{counted}
 
 module _ {A : Type 0} (axis : Axis) (found : List ℕ) (marks : List Bool) (g : Grid A) (t : TellsLocated found (count_along axis g) marks) where

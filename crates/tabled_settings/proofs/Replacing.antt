@@ -16,20 +16,20 @@ all_high cleans n (b ∷ bs) h = rw (replaced_high cleans n b h.0, all_high clea
 
 encode_high : (c : ℕ) → 128 ≤ c → AllByRecursion (λ b. 128 ≤ b) (encode_utf8 c)
 unfolding lib.Utf8.encode
-encode_high c h = rw (le-ltb c 128 h) (by (ltb c 2048) (ltb c 65536))
+encode_high c h = rw (le-ltb c 128 h) (bytes_high (ltb c 2048) (ltb c 65536))
   where
-    by : (two three : Bool) → AllByRecursion (λ b. 128 ≤ b) (cond two ((192 + c / 64) ∷ (128 + c % 64) ∷ []) (cond three ((224 + c / 4096) ∷ (128 + (c / 64) % 64) ∷ (128 + c % 64) ∷ []) ((240 + c / 262144) ∷ (128 + (c / 4096) % 64) ∷ (128 + (c / 64) % 64) ∷ (128 + c % 64) ∷ [])))
-    by true three = (omega arith, (omega arith, tt))
-    by false true = (omega arith, (omega arith, (omega arith, tt)))
-    by false false = (omega arith, (omega arith, (omega arith, (omega arith, tt))))
+    bytes_high : (two three : Bool) → AllByRecursion (λ b. 128 ≤ b) (cond two ((192 + c / 64) ∷ (128 + c % 64) ∷ []) (cond three ((224 + c / 4096) ∷ (128 + (c / 64) % 64) ∷ (128 + c % 64) ∷ []) ((240 + c / 262144) ∷ (128 + (c / 4096) % 64) ∷ (128 + (c / 64) % 64) ∷ (128 + c % 64) ∷ [])))
+    bytes_high true three = (omega arith, (omega arith, tt))
+    bytes_high false true = (omega arith, (omega arith, (omega arith, tt)))
+    bytes_high false false = (omega arith, (omega arith, (omega arith, (omega arith, tt))))
 
 -- what comes in the place of a character
 replaced-char : (cleans : Bool) (n c : ℕ) → flat_map (replaced cleans n) (encode_utf8 c) ≡ cond (c == 9) (replicate n 32) (cond (byte_stays cleans c) (encode_utf8 c) [])
-replaced-char cleans n c = by (ltb c 128) refl
+replaced-char cleans n c = low_or_high (ltb c 128) refl
   where
-    by : (b : Bool) → ltb c 128 ≡ b → flat_map (replaced cleans n) (encode_utf8 c) ≡ cond (c == 9) (replicate n 32) (cond (byte_stays cleans c) (encode_utf8 c) [])
-    by true e = rw (encode_ascii c (ltb-true c 128 e)) (append-nil (replaced cleans n c))
-    by false e =
+    low_or_high : (b : Bool) → ltb c 128 ≡ b → flat_map (replaced cleans n) (encode_utf8 c) ≡ cond (c == 9) (replicate n 32) (cond (byte_stays cleans c) (encode_utf8 c) [])
+    low_or_high true e = rw (encode_ascii c (ltb-true c 128 e)) (append-nil (replaced cleans n c))
+    low_or_high false e =
         let high : 128 ≤ c = ltb-false c 128 e in
         all_high cleans n (encode_utf8 c) (encode_high c high) ∙ rw (ne_eqb c 9 (λ x. omega (arith, high, x)), stays_high cleans c high) refl
 

@@ -74,12 +74,12 @@ module _ {A : Type 0} (weight : A → ℕ) where
 
   pub count_by-filter : (p q : A → Bool) → ((x : A) → weight x ≡ cond (q x) (cond (p x) 1 0) 0) → (xs : List A) → count_by p (filter q xs) ≡ sum_by weight xs
   count_by-filter p q weighs [] = refl
-  count_by-filter p q weighs (x ∷ xs) = either (q x) refl (count_by-filter p q weighs xs) ∙ sym (sum_by-cons weight x xs)
+  count_by-filter p q weighs (x ∷ xs) = one_more (q x) refl (count_by-filter p q weighs xs) ∙ sym (sum_by-cons weight x xs)
     where
-      either : (b : Bool) → q x ≡ b → count_by p (filter q xs) ≡ sum_by weight xs → count_by p (filter q (x ∷ xs)) ≡ weight x + sum_by weight xs
-      either true e rest =
+      one_more : (b : Bool) → q x ≡ b → count_by p (filter q xs) ≡ sum_by weight xs → count_by p (filter q (x ∷ xs)) ≡ weight x + sum_by weight xs
+      one_more true e rest =
           let one : weight x ≡ cond (p x) 1 0 = weighs x ∙ ap (λ (b : Bool). cond b (cond (p x) 1 0) 0) e in
           rw e (sum_by-cons (λ (y : A). cond (p y) 1 0) x (filter q xs) ∙ ap₂ (λ (a b : ℕ). a + b) (sym one) rest)
-      either false e rest =
+      one_more false e rest =
           let none : weight x ≡ 0 = weighs x ∙ ap (λ (b : Bool). cond b (cond (p x) 1 0) 0) e in
           rw e (rest ∙ nothing_more (weight x) (sum_by weight xs) none)

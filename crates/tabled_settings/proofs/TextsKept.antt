@@ -10,21 +10,21 @@ use Rattle.tabled_settings.proofs.Sums.{count_by-filter, sum_by-joined, sum_by-p
 
 no_texts : (xs : List (List ℕ)) → list_any is_text xs ≡ false → filter is_text xs ≡ []
 no_texts [] e = refl
-no_texts (x ∷ xs) e = either (is_text x) refl (no_texts xs)
+no_texts (x ∷ xs) e = none_left (is_text x) refl (no_texts xs)
   where
-    either : (b : Bool) → is_text x ≡ b → (list_any is_text xs ≡ false → filter is_text xs ≡ []) → filter is_text (x ∷ xs) ≡ []
-    either true is rest = absurd (true≢false (ap (λ (b : Bool). b || list_any is_text xs) (sym is) ∙ e))
-    either false is rest = rw is (rest (ap (λ (b : Bool). b || list_any is_text xs) (sym is) ∙ e))
+    none_left : (b : Bool) → is_text x ≡ b → (list_any is_text xs ≡ false → filter is_text xs ≡ []) → filter is_text (x ∷ xs) ≡ []
+    none_left true is rest = absurd (true≢false (ap (λ (b : Bool). b || list_any is_text xs) (sym is) ∙ e))
+    none_left false is rest = rw is (rest (ap (λ (b : Bool). b || list_any is_text xs) (sym is) ∙ e))
 
 -- pieces without a text add none
 without_empty : (f : ℕ → List (List ℕ)) (p : ℕ → Bool) → ((t : ℕ) → p t ≡ false → list_any is_text (f t) ≡ false) → (ts : List ℕ) → filter is_text (joined (map f (filter p ts))) ≡ filter is_text (joined (map f ts))
 without_empty f p none [] = refl
-without_empty f p none (t ∷ ts) = either (p t) refl (without_empty f p none ts)
+without_empty f p none (t ∷ ts) = one_piece_more (p t) refl (without_empty f p none ts)
   where
-    either : (b : Bool) → p t ≡ b → filter is_text (joined (map f (filter p ts))) ≡ filter is_text (joined (map f ts)) → filter is_text (joined (map f (filter p (t ∷ ts)))) ≡ filter is_text (joined (map f (t ∷ ts)))
-    either true e rest =
+    one_piece_more : (b : Bool) → p t ≡ b → filter is_text (joined (map f (filter p ts))) ≡ filter is_text (joined (map f ts)) → filter is_text (joined (map f (filter p (t ∷ ts)))) ≡ filter is_text (joined (map f (t ∷ ts)))
+    one_piece_more true e rest =
         rw e (filter-append is_text (f t) (joined (map f (filter p ts))) ∙ ap (λ (ys : List (List ℕ)). filter is_text (f t) ++ ys) rest ∙ sym (filter-append is_text (f t) (joined (map f ts))))
-    either false e rest =
+    one_piece_more false e rest =
         rw e (rest ∙ ap (λ (ys : List (List ℕ)). ys ++ filter is_text (joined (map f ts))) (sym (no_texts (f t) (none t e))) ∙ sym (filter-append is_text (f t) (joined (map f ts))))
 
 gone : (d : Display) (k : ℕ) (texts : List (List ℕ)) → stays d k texts ≡ false → list_any is_text texts ≡ false
@@ -64,9 +64,9 @@ no_text_lost s g even = elim (cases_Bool (has_pieces s g.rows g.columns)) [
 ]
 
 -- a sum over all pieces goes over the lines, and in each over its pieces
-by_lines : (o : PieceOrder) (lines pieces : ℕ) (f : ℕ → ℕ) → sum_to (lines * pieces) f ≡ sum_to lines (λ (i : ℕ). sum_to pieces (λ (k : ℕ). f (piece_index o lines pieces i k)))
-by_lines Zip lines pieces f = sum_to-blocks lines pieces f
-by_lines Concat lines pieces f =
+sum_to-pieces : (o : PieceOrder) (lines pieces : ℕ) (f : ℕ → ℕ) → sum_to (lines * pieces) f ≡ sum_to lines (λ (i : ℕ). sum_to pieces (λ (k : ℕ). f (piece_index o lines pieces i k)))
+sum_to-pieces Zip lines pieces f = sum_to-blocks lines pieces f
+sum_to-pieces Concat lines pieces f =
     let turn : lines * pieces ≡ pieces * lines = omega arith in
     ap (λ (n : ℕ). sum_to n f) turn
     ∙ sum_to-blocks pieces lines f
@@ -87,7 +87,7 @@ module _ (weight : List ℕ → ℕ) (light : weight [] ≡ 0) where
       let weight_at : ℕ × ℕ → ℕ = λ (p : ℕ × ℕ). sum_by weight (piece s.index p.1 (get_or rows p.0 nothing)) in
       sum_by-joined weight (map (piece_at s pieces rows) (range_with_len 0 (length rows * pieces)))
       ∙ sum_by-range (sum_by weight) (length rows * pieces) (piece_at s pieces rows)
-      ∙ by_lines s.behavior (length rows) pieces (λ (t : ℕ). weight_at (nth_piece s.behavior (length rows) pieces t))
+      ∙ sum_to-pieces s.behavior (length rows) pieces (λ (t : ℕ). weight_at (nth_piece s.behavior (length rows) pieces t))
       ∙ sum_to-alike (length rows) (λ (i : ℕ). sum_to pieces (λ (k : ℕ). weight_at (nth_piece s.behavior (length rows) pieces (piece_index s.behavior (length rows) pieces i k)))) (λ (i : ℕ). sum_by weight (get_or rows i nothing))
       (λ i h.
       let long : length (get_or rows i nothing) ≡ width = All-from_recursion _ rows wide i nothing h in

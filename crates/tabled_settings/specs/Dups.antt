@@ -21,12 +21,12 @@ abbrev pub round_writes : List (List ℕ) → ℕ → ℕ → List Entity → Li
 round_writes texts rows columns entities = flat_map (λ e. round_from 0 texts (inside e rows columns)) entities
 
 -- texts for the cells that an entity names in a grid, one after another
-abbrev pub texts_to : Entity → List (List ℕ) → Grid (List ℕ) → List Write
-texts_to e texts g = round_from 0 texts (inside e g.rows g.columns)
+abbrev pub texts_to : Entity → List (String Global) → Grid (List ℕ) → List Write
+texts_to e texts g = round_from 0 (map string_bytes texts) (inside e g.rows g.columns)
 
 -- texts for the cells that entities name in a grid, for each entity from the first text on
-abbrev pub texts_to_each : List Entity → List (List ℕ) → Grid (List ℕ) → List Write
-texts_to_each entities texts g = round_writes texts g.rows g.columns entities
+abbrev pub texts_to_each : List Entity → List (String Global) → Grid (List ℕ) → List Write
+texts_to_each entities texts g = round_writes (map string_bytes texts) g.rows g.columns entities
 
 -- texts for what entities name, for each from the first text on, and no writes where there are no texts
 abbrev pub rounds : List (List ℕ) → ℕ → ℕ → List Entity → List Write

@@ -72,6 +72,33 @@ pub record FillsTo {A : Type 0} (text_of : A → List ℕ) (want : ℕ → ℕ �
   pub unwritten : (a b : ℕ) → want a b ≡ None → cell_at new (place a b) ≡ cell_at old (place a b)
   pub done : (a b : ℕ) → b < new.columns → (rows ≤ a) ⊎ (columns ≤ b) → (a < i) ⊎ ((a ≡ i) × (b < j)) → (text : List ℕ) → want a b ≡ Some text → cell_at (map_grid text_of new) (place a b) ≡ Some text
 
--- the texts that a second table puts at places outside of r rows and c columns stand there, and the others are as they were
-abbrev pub Fills : {A : Type 0} → (A → List ℕ) → Position → Grid (List ℕ) → List ℕ → ℕ → ℕ → Grid A → Grid A → Type 0
-Fills text_of corner second default rows columns old new = FillsTo text_of (text_put corner second default) rows columns old.rows 0 old new
+-- a second table that is joined: the shape of the first one, where the second begins, its texts, and the text for cells that the first lacks
+pub record Joint : Type 0 where
+  pub rows : ℕ
+  pub columns : ℕ
+  pub corner : Position
+  pub second : Grid (List ℕ)
+  pub default : List ℕ
+
+-- a second table that is joined below a first one of r rows and c columns, or right of it
+abbrev pub joint : Axis → ℕ → ℕ → Grid (List ℕ) → List ℕ → Joint
+joint axis rows columns second default = record { rows = rows; columns = columns; corner = corner_of axis rows columns; second = second; default = default }
+
+-- it begins in the first table or beside it, and a shape has room for both
+pub record HasRoom (rows columns : ℕ) (corner : Position) (second_rows second_columns new_rows new_columns : ℕ) : Type 0 where
+  pub row : corner.row ≤ rows
+  pub col : corner.col ≤ columns
+  pub tall : new_rows ≡ max rows (corner.row + second_rows)
+  pub wide : new_columns ≡ max columns (corner.col + second_columns)
+
+-- the text that it puts at a place
+abbrev pub text_of_joint : Joint → ℕ → ℕ → Option (List ℕ)
+text_of_joint j = text_put j.corner j.second j.default
+
+-- the texts that it puts at places outside of the first table stand there, and the others are as they were
+abbrev pub Fills : {A : Type 0} → (A → List ℕ) → Joint → Grid A → Grid A → Type 0
+Fills text_of j old new = FillsTo text_of (text_of_joint j) j.rows j.columns old.rows 0 old new
+
+-- it is joined
+abbrev pub Joins : {A : Type 0} → (A → Type 0) → (A → List ℕ) → Joint → Grid A → Grid A → Type 0
+Joins is_blank text_of j old new = JoinsAt is_blank text_of j.corner j.second j.default old new

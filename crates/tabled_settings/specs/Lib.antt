@@ -7,7 +7,7 @@ pub mod Orders
 pub mod PiecePlaces
 pub mod PieceTexts
 pub mod Pieces
-pub mod Places
 pub mod Rearranged
 pub mod Rewrites
+pub mod TakenOnce
 pub mod Wraps

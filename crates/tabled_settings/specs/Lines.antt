@@ -6,7 +6,7 @@ use Rattle.tabled_grid.specs.Places.{IsShapedAs}
 use Rattle.tabled_grid.specs.Grid.{Grid, IsEven}
 use Rattle.tabled_grid.specs.declared.records.axis.Axis.{Axis}
 use Rattle.tabled_grid.specs.declared.records.axis.Axis.TheVariants.{Rows, Columns}
-use Rattle.tabled_settings.specs.Rearranged.{columns_if}
+use Rattle.tabled_settings.specs.Rearranged.{columns_if, left_over}
 
 -- the cells of a row, or those of a column
 abbrev pub line_cells : {A : Type 0} → Axis → Grid A → ℕ → List (Option A)
@@ -51,3 +51,7 @@ pub record KeepsLines {A : Type 0} (axis : Axis) (kept : List ℕ) (old new : Gr
 -- a line has a mark
 abbrev pub is_marked : List Bool → ℕ → Bool
 is_marked marks i = slice_index_or marks i false
+
+-- the indexes without a mark, in order
+abbrev pub unmarked : List Bool → List ℕ
+unmarked marks = left_over (is_marked marks) (length marks)

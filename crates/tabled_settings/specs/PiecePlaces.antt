@@ -1,5 +1,5 @@
 -- Where the cells of pieces come from, and pieces glued together.
-use Rattle.std.specs.Prelude.{◌≡◌, ◌<◌, ℕ, if◌then◌else◌, false, List, [], Some, length, map, slice_index_or, take}
+use Rattle.std.specs.Prelude.{◌≡◌, ◌<◌, ℕ, if◌then◌else◌, Bool, false, List, [], Some, count_by, length, map, slice_index_or, take}
 use Rattle.std.specs.Int.{div_ceil}
 use Rattle.std.specs.List.{filter, flat_map, range_with_len}
 use Rattle.tabled_grid.specs.Flat.{joined}
@@ -36,12 +36,12 @@ shown_lines Retain axis kept places = places
 shown_lines Clean axis kept places = thinned axis kept places
 
 -- the numbers of the pieces of rows that stay, in order
-abbrev pub kept_pieces : Split → Grid (List ℕ) → List ℕ
-kept_pieces s g = staying s (div_ceil g.columns s.index) g.cells
+abbrev pub staying_pieces : Split → Grid (List ℕ) → List ℕ
+staying_pieces s g = staying s (div_ceil g.columns s.index) g.cells
 
 -- where the cells of the pieces that stay come from, in a grid of these texts
 abbrev pub split_places : Split → Grid (List ℕ) → Places
-split_places s g = if has_pieces s g.rows g.columns then shown_lines s.display s.lines (kept_pieces s (oriented s.lines g)) (cut_places s.lines s.behavior s.index (count_of s.lines g.rows g.columns) (count_of (across s.lines) g.rows g.columns)) else same_places g.rows g.columns
+split_places s g = if has_pieces s g.rows g.columns then shown_lines s.display s.lines (staying_pieces s (oriented s.lines g)) (cut_places s.lines s.behavior s.index (count_of s.lines g.rows g.columns) (count_of (across s.lines) g.rows g.columns)) else same_places g.rows g.columns
 
 -- the texts are those of the pieces that stay, each cell is the old one of its place or a blank, and where there are no pieces the grid is as it was
 pub record Splits {A : Type 0} (is_blank : A → Type 0) (text_of : A → List ℕ) (s : Split) (old new : Grid A) : Type 0 where
@@ -76,6 +76,10 @@ IsGluedBack s old new = 0 < old.rows → 0 < old.columns → 0 < s.index → s.d
 -- the texts that aren't empty, row by row or column by column
 abbrev pub texts_along : Axis → Grid (List ℕ) → List (List ℕ)
 texts_along axis g = filter is_text (joined (oriented axis g).cells)
+
+-- how many of these pass a test
+abbrev pub count_texts : (List ℕ → Bool) → Axis → Grid (List ℕ) → ℕ
+count_texts p axis g = count_by p (texts_along axis g)
 
 -- a table that is split, with all pieces kept
 abbrev pub all_pieces : Split → Grid (List ℕ) → Grid (List ℕ)

@@ -8,7 +8,7 @@ use Rattle.tabled_grid.specs.Axis.{across, count_of}
 use Rattle.tabled_grid.specs.Pieces.{nth_piece}
 use Rattle.tabled_grid.specs.declared.records.axis.Axis.{Axis}
 use Rattle.tabled_grid.specs.declared.records.axis.Axis.TheVariants.{Rows, Columns}
-use Rattle.tabled_grid.specs.declared.records.pieces.Cut.{Cut}
+use Rattle.tabled_grid.specs.declared.records.pieces.LinePieces.{LinePieces}
 use Rattle.tabled_settings.specs.declared.split.Display.{Display}
 use Rattle.tabled_settings.specs.declared.split.Display.TheVariants.{Clean, Retain}
 use Rattle.tabled_settings.specs.declared.split.Split.{Split}
@@ -28,8 +28,8 @@ is_text [] = false
 is_text (c ∷ text) = true
 
 -- a split by which the first piece of each line stays that is cut, and those with a text
-abbrev pub clean_split : Cut → Split
-clean_split cut = record { lines = cut.axis; behavior = cut.order; display = Clean; index = cut.index }
+abbrev pub clean_split : LinePieces → Split
+clean_split pieces = record { lines = pieces.axis; behavior = pieces.order; display = Clean; index = pieces.index }
 
 -- all pieces stay, or the first one of each line and those with a text
 abbrev pub stays : Display → ℕ → List (List ℕ) → Bool

@@ -1,5 +1,5 @@
 -- The rearrangements: where their cells come from, in a table of r rows and c columns.
-use Rattle.std.specs.Prelude.{◌≡◌, ℕ, ◌+◌, ◌-◌, ◌==◌, ◌&&◌, if◌then◌else◌, Bool, List, Some, length, min, nat_le, nat_lt, not, slice_index_or}
+use Rattle.std.specs.Prelude.{◌≡◌, ◌<◌, ℕ, ◌+◌, ◌-◌, ◌==◌, ◌&&◌, if◌then◌else◌, Bool, List, Some, length, min, nat_le, nat_lt, not, slice_index_or}
 use Rattle.std.specs.List.{filter, range_with_len}
 use Rattle.std.specs.declared.ops.Bound.{Bound}
 use Rattle.tabled_grid.specs.Bounds.{end_index, first_index}
@@ -12,14 +12,13 @@ use Rattle.tabled_grid.specs.declared.records.axis.Axis.TheVariants.{Rows, Colum
 use Rattle.tabled_settings.specs.declared.rotate.Rotate.{Rotate}
 use Rattle.tabled_settings.specs.declared.rotate.Rotate.TheVariants.{Left, Right, Top, Bottom}
 use Rattle.tabled_settings.specs.declared.reverse.Reverse.{Reverse}
-use Rattle.tabled_grid.specs.Axis.{count_of}
+use Rattle.tabled_grid.specs.Axis.{count_of, in_line, line_of}
 use Rattle.tabled_grid.specs.Grid.{Grid}
 use Rattle.tabled_grid.specs.Places.{Places, ReadsThrough}
 use Rattle.tabled_grid.specs.Spans.{SpanMap}
 use Rattle.tabled_carry.specs.Images.{carried}
 use Rattle.tabled_options.specs.Does.{Change}
 use Rattle.tabled_select.specs.Located.{is_located}
-use Rattle.tabled_settings.specs.Places.{lines_from}
 
 -- the cells are read through a map of places, and the merged cells are carried along
 abbrev pub Rearranges : {A : Type 0} → Places → Change A SpanMap
@@ -28,6 +27,10 @@ Rearranges places old cfg new new_cfg = ReadsThrough places old new × (new_cfg 
 -- merged cells, carried along where cells move, and else as they are
 abbrev pub carried_if : Bool → Places → ℕ → ℕ → SpanMap → SpanMap
 carried_if moves places rows columns m = if moves then carried places rows columns m else m
+
+-- each row, or each column, comes from an old one
+abbrev pub lines_from : Axis → (ℕ → ℕ) → ℕ → ℕ → Places
+lines_from axis from rows columns = record { rows = rows; columns = columns; old_place = λ (p : Position). Some (in_line axis p (from (line_of axis p))) }
 
 -- n columns, of which there are none without rows
 abbrev pub columns_if : ℕ → ℕ → ℕ
@@ -99,6 +102,10 @@ pub record Removes {A : Type 0} (axis : Axis) (locates : Grid A → List ℕ →
   pub found : List ℕ
   pub located : locates old found
   pub rearranged : Rearranges (removed axis found old.rows old.columns) old cfg new new_cfg
+
+-- where a table has a row and a column
+abbrev pub WithCells : {A : Type 0} → Grid A → Type 0 → Type 0
+WithCells g claim = 0 < g.rows → 0 < g.columns → claim
 
 -- a table is another one, rotated
 abbrev pub IsRotated : {A : Type 0} → Rotate → Grid A → Grid A → Type 0

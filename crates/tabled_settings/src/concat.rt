@@ -1,11 +1,10 @@
 //! Two tables joined to one.
 
-ghost use Rattle.std.specs.Prelude.{◌≡◌, ◌+◌, ◌≤◌, [], IfOk, OnErr, OnOk, max};
-ghost use Rattle.std.specs.Option.{option_copied};
+ghost use Rattle.std.specs.Prelude.{◌≡◌, ◌≤◌, [], OnErr, OnOk};
 ghost use Rattle.std.specs.String.{string_bytes};
 ghost use Rattle.tabled_grid.specs.Grid.{map_grid};
 ghost use Rattle.tabled_grid.specs.declared.records.axis.Axis.TheVariants.{Columns, Rows};
-ghost use Rattle.tabled_settings.specs.Joined.{Fills, FillsTo, GrowsTo, JoinsAt, JoinsTables, as_texts, corner_of, text_put};
+ghost use Rattle.tabled_settings.specs.Joined.{GrowsTo, JoinsTables, corner_of};
 ghost use Rattle.std.proofs.Common.{rules};
 
 use std::alloc::{AllocError, Global};
@@ -111,18 +110,10 @@ where
     ) -> Result<(), AllocError> {
         let rows = records.count_rows();
         let columns = records.count_columns();
-        let corner = corner_of(self.axis, rows, columns);
         let second = self.second.get_records();
-        let growth = Growth::of(rows, columns, corner, second)?;
+        let joint = Joint::of(self.axis, rows, columns, second, self.default.as_str())?;
         let fitting = FittingSpans::of(alloc, cfg, rows, columns)?;
-        join(
-            alloc,
-            records,
-            &growth,
-            corner,
-            second,
-            self.default.as_str(),
-        )?;
+        joint.join(alloc, records)?;
         fitting.stay(cfg);
         Ok(())
     }
@@ -146,31 +137,48 @@ fn corner_of(axis: Axis, rows: usize, columns: usize) -> Position
     }
 }
 
-/// A shape of r rows and c columns, and one that is no smaller.
+/// A second table that is joined to a first one of r rows and c columns. A contract sees it as that shape, where
+/// the second table begins, its texts and the text for cells that the first table lacks.
 #[derive(Drop)]
-struct Growth {
+struct Joint<'a> {
     rows: usize,
     columns: usize,
+    corner: Position,
+    second: &'a VecRecords<Text<String>>,
+    default: &'a str,
+    /// The rows of both together.
     new_rows: usize,
+    /// The columns of both together.
     new_columns: usize,
-    ghost taller: { rows ≤ new_rows },
-    ghost wider: { columns ≤ new_columns },
 }
 
-impl Growth {
-    /// The shape of a first table, and one with room for a second table that begins at a corner. Refused where
-    /// that has more rows or columns than there are indexes.
+impl<'a> Model for Joint<'a> {
+    ghost use Rattle.tabled_settings.specs.Joined.{HasRoom, Joint, as_texts};
+
+    ghost Value = { Joint };
+
+    ghost view = { λ j. record { rows = j.rows; columns = j.columns; corner = j.corner; second = as_texts j.second.now.grid; default = j.default.now } };
+
+    ghost invariant = { λ j. let second = j.second.now.grid in HasRoom j.rows j.columns j.corner second.rows second.columns j.new_rows j.new_columns };
+}
+
+impl<'a> Joint<'a> {
+    ghost use Rattle.std.specs.Prelude.{◌≡◌, ◌≤◌, IfOk, OnErr, OnOk};
+    ghost use Rattle.std.specs.Option.{option_copied};
+    ghost use Rattle.tabled_settings.specs.Joined.{Fills, FillsTo, Joins, as_texts, joint, text_of_joint};
+
+    /// A second table below the first, or right of it. Refused where both together have more rows or columns
+    /// than there are indexes.
     fn of(
+        axis: Axis,
         rows: usize,
         columns: usize,
-        corner: Position,
-        second: &VecRecords<Text<String>>,
+        second: &'a VecRecords<Text<String>>,
+        default: &'a str,
     ) -> Result<Self, AllocError>
-        ensures rows { IfOk result (λ g. g.rows ≡ rows) }
-        ensures columns { IfOk result (λ g. g.columns ≡ columns) }
-        ensures tall { IfOk result (λ g. g.new_rows ≡ max rows (corner.row + second.now.grid.rows)) }
-        ensures wide { IfOk result (λ g. g.new_columns ≡ max columns (corner.col + second.now.grid.columns)) }
+        ensures { IfOk result (λ j. j ≡ joint axis rows columns (as_texts second.now.grid) default.now) }
     {
+        let corner = corner_of(axis, rows, columns);
         let bottom = corner
             .row
             .checked_add(second.count_rows())
@@ -179,53 +187,81 @@ impl Growth {
             .col
             .checked_add(second.count_columns())
             .ok_or(AllocError)?;
-        Ok(Growth {
+        Ok(Joint {
             rows,
             columns,
+            corner,
+            second,
+            default,
             new_rows: rows.max(bottom),
             new_columns: columns.max(right),
         })
     }
-}
 
-/// Joins a second table that begins at a corner. Refused, it leaves the store as it was.
-fn join<R>(
-    alloc: Global,
-    records: &mut R,
-    growth: &Growth,
-    corner: Position,
-    second: &VecRecords<Text<String>>,
-    default: &str,
-) -> Result<(), AllocError>
-where
-    R: Records + ExactRecords + Resizable + RecordsMut<String>,
-    R::Cell: CellText,
-    requires well { R.is_well_formed records.old }
-    requires rows { growth.now.rows ≡ (R.grid records.old).rows }
-    requires columns { growth.now.columns ≡ (R.grid records.old).columns }
-    requires tall { growth.now.new_rows ≡ max growth.now.rows (corner.row + second.now.grid.rows) }
-    requires wide { growth.now.new_columns ≡ max growth.now.columns (corner.col + second.now.grid.columns) }
-    requires row { corner.row ≤ (R.grid records.old).rows }
-    requires col { corner.col ≤ (R.grid records.old).columns }
-    ensures well { R.is_well_formed records.new }
-    ensures ok { OnOk result (JoinsAt R.Cell.is_blank R.Cell.text_of corner (as_texts second.now.grid) default.now (R.grid records.old) (R.grid records.new)) }
-    ensures err { OnErr result (R.grid records.new ≡ R.grid records.old) }
-{
-    grow(alloc, records, growth.new_rows, growth.new_columns)?;
-    if let Err(error) = fill(
-        alloc,
-        records,
-        growth.rows,
-        growth.columns,
-        corner,
-        second,
-        default,
-    ) {
-        records.truncate_columns(growth.columns);
-        records.truncate_rows(growth.rows);
-        return Err(error);
+    /// Joins it. Refused, it leaves the store as it was.
+    fn join<R>(&self, alloc: Global, records: &mut R) -> Result<(), AllocError>
+    where
+        R: Records + ExactRecords + Resizable + RecordsMut<String>,
+        R::Cell: CellText,
+        requires well { R.is_well_formed records.old }
+        requires rows { self.now.rows ≡ (R.grid records.old).rows }
+        requires columns { self.now.columns ≡ (R.grid records.old).columns }
+        ensures well { R.is_well_formed records.new }
+        ensures ok { OnOk result (Joins R.Cell.is_blank R.Cell.text_of self.now (R.grid records.old) (R.grid records.new)) }
+        ensures err { OnErr result (R.grid records.new ≡ R.grid records.old) }
+    {
+        grow(alloc, records, self.new_rows, self.new_columns)?;
+        if let Err(error) = self.fill(alloc, records) {
+            records.truncate_columns(self.columns);
+            records.truncate_rows(self.rows);
+            return Err(error);
+        }
+        Ok(())
     }
-    Ok(())
+
+    /// Writes the texts that it puts outside of the first table. Refused, it leaves the first cells as they were.
+    fn fill<R>(&self, alloc: Global, records: &mut R) -> Result<(), AllocError>
+    where
+        R: Records + ExactRecords + RecordsMut<String>,
+        R::Cell: CellText,
+        requires well { R.is_well_formed records.old }
+        requires wide { self.now.columns ≤ (R.grid records.old).columns }
+        ensures well { R.is_well_formed records.new }
+        ensures kept { let j = self.now in FillsTo R.Cell.text_of (text_of_joint j) j.rows j.columns 0 0 (R.grid records.old) (R.grid records.new) }
+        ensures ok { OnOk result (Fills R.Cell.text_of self.now (R.grid records.old) (R.grid records.new)) }
+    {
+        let count = records.count_columns();
+        for i in 0..records.count_rows() {
+            let start = if i < self.rows { self.columns } else { 0 };
+            for j in start..count {
+                if let Some(text) = self.text_at(i, j) {
+                    records.set(
+                        alloc,
+                        Position { row: i, col: j },
+                        String::from_str(alloc, text)?,
+                    )?;
+                }
+            }
+        }
+        Ok(())
+    }
+
+    /// The text that it puts at a place outside of the first table; none where the second one lacks the cell.
+    fn text_at(&self, row: usize, col: usize) -> Option<&'a str>
+        ensures { option_copied result ≡ text_of_joint self.now row col }
+    {
+        if row < self.corner.row || col < self.corner.col {
+            return Some(self.default);
+        }
+        let pos = Position {
+            row: row - self.corner.row,
+            col: col - self.corner.col,
+        };
+        if pos.row >= self.second.count_rows() || pos.col >= self.second.count_columns() {
+            return None;
+        }
+        Some(self.second.get_text(pos))
+    }
 }
 
 /// Grows a store to a shape that is no smaller. Refused, it leaves the store as it was.
@@ -249,62 +285,4 @@ where
         return Err(error);
     }
     Ok(())
-}
-
-/// Writes the texts that are put outside of the first table. Refused, it leaves the first cells as they were.
-fn fill<R>(
-    alloc: Global,
-    records: &mut R,
-    rows: usize,
-    columns: usize,
-    corner: Position,
-    second: &VecRecords<Text<String>>,
-    default: &str,
-) -> Result<(), AllocError>
-where
-    R: Records + ExactRecords + RecordsMut<String>,
-    R::Cell: CellText,
-    requires well { R.is_well_formed records.old }
-    requires wide { columns ≤ (R.grid records.old).columns }
-    ensures well { R.is_well_formed records.new }
-    ensures kept { FillsTo R.Cell.text_of (text_put corner (as_texts second.now.grid) default.now) rows columns 0 0 (R.grid records.old) (R.grid records.new) }
-    ensures ok { OnOk result (Fills R.Cell.text_of corner (as_texts second.now.grid) default.now rows columns (R.grid records.old) (R.grid records.new)) }
-{
-    let count = records.count_columns();
-    for i in 0..records.count_rows() {
-        let start = if i < rows { columns } else { 0 };
-        for j in start..count {
-            if let Some(text) = text_at(second, default, corner, i, j) {
-                records.set(
-                    alloc,
-                    Position { row: i, col: j },
-                    String::from_str(alloc, text)?,
-                )?;
-            }
-        }
-    }
-    Ok(())
-}
-
-/// The text that is put at a place outside of the first table; none where the second table lacks the cell.
-fn text_at<'a>(
-    second: &'a VecRecords<Text<String>>,
-    default: &'a str,
-    corner: Position,
-    row: usize,
-    col: usize,
-) -> Option<&'a str>
-    ensures { option_copied result ≡ text_put corner (as_texts second.now.grid) default.now row col }
-{
-    if row < corner.row || col < corner.col {
-        return Some(default);
-    }
-    let pos = Position {
-        row: row - corner.row,
-        col: col - corner.col,
-    };
-    if pos.row >= second.count_rows() || pos.col >= second.count_columns() {
-        return None;
-    }
-    Some(second.get_text(pos))
 }

@@ -6,7 +6,7 @@ ghost use Rattle.tabled_grid.specs.declared.records.axis.Axis.TheVariants.{Colum
 ghost use Rattle.tabled_settings.specs.Rearranged.{Removes};
 ghost use Rattle.std.proofs.Common.{rules};
 
-use crate::kept_lines::Kept;
+use crate::kept_lines::KeptLines;
 use crate::lines;
 use std::alloc::{AllocError, Global};
 use std::marker::{Model, PhantomData};
@@ -133,7 +133,7 @@ where
         lines::remove(axis, records, &gone);
         return Ok(());
     }
-    let left = Kept::unmarked(alloc, axis, &gone, rows, columns)?;
+    let left = KeptLines::unmarked(alloc, axis, &gone, rows, columns)?;
     let fitting = FittingSpans::of(alloc, cfg, rows, columns)?;
     lines::remove(axis, records, &gone);
     fitting.carry_along(alloc, &left, cfg);

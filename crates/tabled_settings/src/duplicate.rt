@@ -185,8 +185,8 @@ where
     ensures well { R.is_well_formed records.new }
     ensures rows { (R.grid records.new).rows ≡ (R.grid records.old).rows }
     ensures columns { (R.grid records.new).columns ≡ (R.grid records.old).columns }
-    ensures ok { OnOk result (Written R.Cell.text_of (texts_to entity (map string_bytes texts.now)) (R.grid records.old) (R.grid records.new)) }
-    ensures err { OnErr result (FirstWritten R.Cell.text_of (texts_to entity (map string_bytes texts.now)) (R.grid records.old) (R.grid records.new)) }
+    ensures ok { OnOk result (Written R.Cell.text_of (texts_to entity texts.now) (R.grid records.old) (R.grid records.new)) }
+    ensures err { OnErr result (FirstWritten R.Cell.text_of (texts_to entity texts.now) (R.grid records.old) (R.grid records.new)) }
 {
     let mut next = 0;
     for pos in entity.iter(records.count_rows(), records.count_columns()) {
@@ -209,8 +209,8 @@ where
     requires well { R.is_well_formed records.old }
     requires some { 0 < length texts.now }
     ensures well { R.is_well_formed records.new }
-    ensures ok { OnOk result (Written R.Cell.text_of (texts_to_each entities.items (map string_bytes texts.now)) (R.grid records.old) (R.grid records.new)) }
-    ensures err { OnErr result (FirstWritten R.Cell.text_of (texts_to_each entities.items (map string_bytes texts.now)) (R.grid records.old) (R.grid records.new)) }
+    ensures ok { OnOk result (Written R.Cell.text_of (texts_to_each entities.items texts.now) (R.grid records.old) (R.grid records.new)) }
+    ensures err { OnErr result (FirstWritten R.Cell.text_of (texts_to_each entities.items texts.now) (R.grid records.old) (R.grid records.new)) }
 {
     let mut rest = entities.into_iter();
     while let Some(entity) = rest.next() {

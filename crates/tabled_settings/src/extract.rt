@@ -10,8 +10,8 @@ use crate::lines;
 use std::alloc::{AllocError, Global};
 use std::marker::Model;
 use std::ops::{Range, RangeFull};
-use tabled_carry::{FittingSpans, Moves, MovesRectangles};
-use tabled_grid::config::{Entity, Position, SpannedConfig, ToBounds};
+use tabled_carry::{FittingSpans, Moves, MovesCells, MovesRectangles, image_of};
+use tabled_grid::config::{Entity, Position, Rectangle, SpannedConfig, ToBounds};
 use tabled_grid::records::{Axis, Blank, ExactRecords, Records, Resizable};
 use tabled_options::TableOption;
 
@@ -143,7 +143,9 @@ impl Window {
 
 impl Moves for Window {
     ghost places = { λ w. window w.first w.rows w.columns };
+}
 
+impl MovesCells for Window {
     fn new_place(&self, pos: Position) -> Option<Position> {
         let row = pos.row.checked_sub(self.first.row)?;
         let col = pos.col.checked_sub(self.first.col)?;
@@ -151,4 +153,8 @@ impl Moves for Window {
     }
 }
 
-impl MovesRectangles for Window {}
+impl MovesRectangles for Window {
+    fn new_rectangle(&self, of: Rectangle) -> Option<Rectangle> {
+        image_of(self, of)
+    }
+}

@@ -2,26 +2,26 @@
 
 ghost use Rattle.std.specs.Prelude.{◌≡◌, ◌<◌, ◌↔◌, ℕ, IfOk, IfSome, IsTrue, Some, length, slice_index};
 ghost use Rattle.std.specs.List.Sorted.{IsStrictlyIncreasing};
-ghost use Rattle.tabled_settings.specs.Lines.{is_marked};
-ghost use Rattle.tabled_settings.specs.Rearranged.{kept_lines, left_over};
+ghost use Rattle.tabled_settings.specs.Lines.{unmarked};
+ghost use Rattle.tabled_settings.specs.Rearranged.{kept_lines};
 
 use std::alloc::{AllocError, Global};
-use tabled_carry::{Moves, MovesRectangles};
-use tabled_grid::config::Position;
+use tabled_carry::{Moves, MovesCells, MovesRectangles, image_of};
+use tabled_grid::config::{Position, Rectangle};
 use tabled_grid::records::Axis;
 
 /// Some of the rows, or of the columns, of a table of r rows and c columns.
 #[derive(Drop)]
-pub(crate) struct Kept {
+pub(crate) struct KeptLines {
     axis: Axis,
-    /// Their indexes, in order.
-    kept: Vec<usize>,
+    /// In order.
+    indexes: Vec<usize>,
     rows: usize,
     columns: usize,
-    ghost rising: { IsStrictlyIncreasing kept.items },
+    ghost rising: { IsStrictlyIncreasing indexes.items },
 }
 
-impl Kept {
+impl KeptLines {
     /// The lines without a mark.
     pub(crate) fn unmarked(
         alloc: Global,
@@ -30,12 +30,12 @@ impl Kept {
         rows: usize,
         columns: usize,
     ) -> Result<Self, AllocError>
-        ensures { IfOk result (λ k. kept_lines k.axis k.kept.items k.rows k.columns ≡ kept_lines axis (left_over (is_marked gone.now) (length gone.now)) rows columns) }
+        ensures { IfOk result (λ k. kept_lines k.axis k.indexes.items k.rows k.columns ≡ kept_lines axis (unmarked gone.now) rows columns) }
     {
-        let kept = unmarked(alloc, gone)?;
-        Ok(Kept {
+        let indexes = unmarked(alloc, gone)?;
+        Ok(KeptLines {
             axis,
-            kept,
+            indexes,
             rows,
             columns,
         })
@@ -44,15 +44,15 @@ impl Kept {
 
 /// The indexes without a mark, in order.
 fn unmarked(alloc: Global, marks: &[bool]) -> Result<Vec<usize>, AllocError>
-    ensures { IfOk result (λ kept. kept.items ≡ left_over (is_marked marks.now) (length marks.now)) }
+    ensures { IfOk result (λ indexes. indexes.items ≡ unmarked marks.now) }
 {
-    let mut kept = Vec::new(alloc);
+    let mut indexes = Vec::new(alloc);
     for (index, mark) in marks.iter().enumerate() {
         if !*mark {
-            kept.push(index)?;
+            indexes.push(index)?;
         }
     }
-    Ok(kept)
+    Ok(indexes)
 }
 
 /// Where an index is in a list that rises, if it is there.
@@ -81,17 +81,23 @@ fn holds_at(indexes: &[usize], place: usize, index: usize) -> bool
     place < indexes.len() && indexes[place] == index
 }
 
-impl Moves for Kept {
-    ghost places = { λ k. kept_lines k.axis k.kept.items k.rows k.columns };
+impl Moves for KeptLines {
+    ghost places = { λ k. kept_lines k.axis k.indexes.items k.rows k.columns };
+}
 
+impl MovesCells for KeptLines {
     fn new_place(&self, pos: Position) -> Option<Position> {
         let across = self.axis.across();
         if across.line_of(pos) >= across.count_of(self.rows, self.columns) {
             return None;
         }
-        let line = index_of(&self.kept, self.axis.line_of(pos))?;
+        let line = index_of(&self.indexes, self.axis.line_of(pos))?;
         Some(self.axis.in_line(pos, line))
     }
 }
 
-impl MovesRectangles for Kept {}
+impl MovesRectangles for KeptLines {
+    fn new_rectangle(&self, of: Rectangle) -> Option<Rectangle> {
+        image_of(self, of)
+    }
+}

@@ -1,20 +1,20 @@
 //! Laws of what options do. Each is the contract of a function that does nothing.
 
-ghost use Rattle.std.specs.Prelude.{◌≡◌, ◌<◌, ◌≤◌, ℕ, Bool, List, count_by, true};
+ghost use Rattle.std.specs.Prelude.{◌≡◌, ◌<◌, ◌≤◌, ℕ, Bool, List, true};
 ghost use Rattle.std.specs.List.{AllByRecursion};
 ghost use Rattle.tabled_grid.specs.Grid.{Grid, IsEven};
 ghost use Rattle.tabled_grid.specs.declared.records.axis.Axis.{Axis};
-ghost use Rattle.tabled_options.specs.Shapes.{FitsAfter, FitsAfterEach};
+ghost use Rattle.tabled_options.specs.Kept.{KeepsFitting, KeepsFittingOnEach};
 ghost use Rattle.tabled_settings.specs.declared.rotate.Rotate.TheVariants.{Bottom, Left, Right, Top};
 ghost use Rattle.tabled_settings.specs.declared.split.Display.TheVariants.{Retain};
 ghost use Rattle.tabled_settings.specs.Charsets.{IsCleanByte, clean_text, with_tabs};
 ghost use Rattle.tabled_settings.specs.Orders.{charset_cmp, reverse_cmp, wrap_cmp};
-ghost use Rattle.tabled_settings.specs.PiecePlaces.{IsGluedBack, all_pieces, split_places, texts_along};
+ghost use Rattle.tabled_settings.specs.PiecePlaces.{IsGluedBack, all_pieces, count_texts, split_places, texts_along};
 ghost use Rattle.tabled_settings.specs.Pieces.{split};
 ghost use Rattle.tabled_grid.specs.Fitting.{Fits};
 ghost use Rattle.tabled_grid.specs.Spans.{SpanMap};
-ghost use Rattle.tabled_settings.specs.Places.{TakesEachOnce};
-ghost use Rattle.tabled_settings.specs.Rearranged.{IsHalfRotated, IsReversed, IsRotated, reversed, rotated, spans_reversed, spans_rotated};
+ghost use Rattle.tabled_settings.specs.Rearranged.{IsHalfRotated, IsReversed, IsRotated, WithCells, reversed, rotated, spans_reversed, spans_rotated};
+ghost use Rattle.tabled_settings.specs.TakenOnce.{TakesEachOnce};
 
 use crate::concat::Concat;
 use crate::disable::{Remove, Target};
@@ -43,7 +43,7 @@ pub use tabled_spans::laws::{
 
 /// A table with a row and a column that is turned to the left and then to the right is as it was.
 pub fn left_then_right_is_as_it_was<A>()
-    ensures same { (old between new : Grid A) → IsEven old → 0 < old.rows → 0 < old.columns → IsRotated Left old between → IsRotated Right between new → new ≡ old }
+    ensures same { (old between new : Grid A) → IsEven old → WithCells old (IsRotated Left old between → IsRotated Right between new → new ≡ old) }
 {}
 
 /// Merged cells that fit a table with a row and a column, turned to the left and then to the right, are as
@@ -61,7 +61,7 @@ pub fn merged_cells_reversed_twice_are_as_they_were()
 /// A table with a row and a column that is turned to the left twice has its rows and its columns in the
 /// opposite order.
 pub fn left_twice_is_a_half_turn<A>()
-    ensures half { (old between new : Grid A) → 0 < old.rows → 0 < old.columns → IsRotated Left old between → IsRotated Left between new → IsHalfRotated old new }
+    ensures half { (old between new : Grid A) → WithCells old (IsRotated Left old between → IsRotated Left between new → IsHalfRotated old new) }
 {}
 
 /// To the top and to the bottom are one turn.
@@ -120,7 +120,7 @@ pub fn split_loses_no_text(_split: Split)
 /// A split keeps each text as often as it stood in the table: of the texts that aren't empty, as many pass
 /// a test after it as before it, whatever the test, the order of the pieces and which of them stay.
 pub fn split_keeps_each_text_as_often(_split: Split)
-    ensures kept { (g : Grid (List ℕ)) (p : List ℕ → Bool) → IsEven g → count_by p (texts_along _split.lines (split _split g)) ≡ count_by p (texts_along _split.lines g) }
+    ensures kept { (g : Grid (List ℕ)) (p : List ℕ → Bool) → IsEven g → count_texts p _split.lines (split _split g) ≡ count_texts p _split.lines g }
 {}
 
 /// A clean text has no control character but the newline.
@@ -144,8 +144,8 @@ pub fn charsets_keep_merged_cells_fitting<R, D>(_charset: &Charset)
 where
     R: Records + ExactRecords + PeekableRecords + RecordsMut<String>,
     R::Cell: CellText,
-    ensures cells { let how = ⟦<Charset as CellOption<R, SpannedConfig>>⟧ in FitsAfterEach (how.does _charset.now) (how.leaves _charset.now) }
-    ensures table { let how = ⟦<Charset as TableOption<R, SpannedConfig, D>>⟧ in FitsAfter (how.does _charset.now) (how.leaves _charset.now) }
+    ensures cells { KeepsFittingOnEach ⟦<Charset as CellOption<R, SpannedConfig>>⟧ _charset.now }
+    ensures table { KeepsFitting ⟦<Charset as TableOption<R, SpannedConfig, D>>⟧ _charset.now }
 {}
 
 /// A format keeps merged cells inside the table and apart, on each entity and on the table, also where it
@@ -155,8 +155,8 @@ where
     R: Records + ExactRecords + PeekableRecords + RecordsMut<String>,
     R::Cell: CellText,
     F: FnMut(Global, &str) -> Result<String, AllocError> + Clone + Drop,
-    ensures cells { let how = ⟦<FormatContent<F> as CellOption<R, SpannedConfig>>⟧ in FitsAfterEach (how.does _format.now) (how.leaves _format.now) }
-    ensures table { let how = ⟦<FormatContent<F> as TableOption<R, SpannedConfig, D>>⟧ in FitsAfter (how.does _format.now) (how.leaves _format.now) }
+    ensures cells { KeepsFittingOnEach ⟦<FormatContent<F> as CellOption<R, SpannedConfig>>⟧ _format.now }
+    ensures table { KeepsFitting ⟦<FormatContent<F> as TableOption<R, SpannedConfig, D>>⟧ _format.now }
 {}
 
 /// So does a format that is asked for places, too.
@@ -165,8 +165,8 @@ where
     R: Records + ExactRecords + PeekableRecords + RecordsMut<String>,
     R::Cell: CellText,
     F: FnMut(Global, &str, Position) -> Result<String, AllocError> + Drop,
-    ensures cells { let how = ⟦<FormatContentPositioned<F> as CellOption<R, SpannedConfig>>⟧ in FitsAfterEach (how.does _format.now) (how.leaves _format.now) }
-    ensures table { let how = ⟦<FormatContentPositioned<F> as TableOption<R, SpannedConfig, D>>⟧ in FitsAfter (how.does _format.now) (how.leaves _format.now) }
+    ensures cells { KeepsFittingOnEach ⟦<FormatContentPositioned<F> as CellOption<R, SpannedConfig>>⟧ _format.now }
+    ensures table { KeepsFitting ⟦<FormatContentPositioned<F> as TableOption<R, SpannedConfig, D>>⟧ _format.now }
 {}
 
 /// Texts that are written to other cells keep merged cells inside the table and apart, also where that is
@@ -177,7 +177,7 @@ where
     R::Cell: CellText,
     Dst: Object<R> + Drop,
     Src: Object<R> + Drop,
-    ensures table { let how = ⟦<Dup<Dst, Src> as TableOption<R, SpannedConfig, D>>⟧ in FitsAfter (how.does _dup.now) (how.leaves _dup.now) }
+    ensures table { KeepsFitting ⟦<Dup<Dst, Src> as TableOption<R, SpannedConfig, D>>⟧ _dup.now }
 {}
 
 /// A turn keeps merged cells inside the table and apart, also where it is refused.
@@ -185,7 +185,7 @@ pub fn rotations_keep_merged_cells_fitting<R, D>(_rotate: &Rotate)
 where
     R: Records + ExactRecords + Resizable,
     R::Cell: Blank,
-    ensures table { let how = ⟦<Rotate as TableOption<R, SpannedConfig, D>>⟧ in FitsAfter (how.does _rotate.now) (how.leaves _rotate.now) }
+    ensures table { KeepsFitting ⟦<Rotate as TableOption<R, SpannedConfig, D>>⟧ _rotate.now }
 {}
 
 /// So does a reversal.
@@ -193,7 +193,7 @@ pub fn reversals_keep_merged_cells_fitting<R, D>(_reverse: Reverse)
 where
     R: Records + ExactRecords + Resizable,
     R::Cell: Blank,
-    ensures table { let how = ⟦<Reverse as TableOption<R, SpannedConfig, D>>⟧ in FitsAfter (how.does _reverse) (how.leaves _reverse) }
+    ensures table { KeepsFitting ⟦<Reverse as TableOption<R, SpannedConfig, D>>⟧ _reverse }
 {}
 
 /// So does a split.
@@ -201,7 +201,7 @@ pub fn splits_keep_merged_cells_fitting<R, D>(_split: Split)
 where
     R: Records + ExactRecords + PeekableRecords + Resizable,
     R::Cell: CellText,
-    ensures table { let how = ⟦<Split as TableOption<R, SpannedConfig, D>>⟧ in FitsAfter (how.does _split) (how.leaves _split) }
+    ensures table { KeepsFitting ⟦<Split as TableOption<R, SpannedConfig, D>>⟧ _split }
 {}
 
 /// So does a part of a table.
@@ -211,7 +211,7 @@ where
     R::Cell: Blank,
     A: ToBounds + Drop,
     B: ToBounds + Drop,
-    ensures table { let how = ⟦<Extract<A, B> as TableOption<R, SpannedConfig, D>>⟧ in FitsAfter (how.does _extract.now) (how.leaves _extract.now) }
+    ensures table { KeepsFitting ⟦<Extract<A, B> as TableOption<R, SpannedConfig, D>>⟧ _extract.now }
 {}
 
 /// So do rows or columns that are taken away.
@@ -222,7 +222,7 @@ where
     L: Location<R, Coordinate = usize> + Drop,
     <L::IntoIter as IntoIterator>::IntoIter: Drop,
     T: Target,
-    ensures table { let how = ⟦<Remove<L, T> as TableOption<R, SpannedConfig, D>>⟧ in FitsAfter (how.does _remove.now) (how.leaves _remove.now) }
+    ensures table { KeepsFitting ⟦<Remove<L, T> as TableOption<R, SpannedConfig, D>>⟧ _remove.now }
 {}
 
 /// So does a second table that is joined.
@@ -230,7 +230,7 @@ pub fn joins_keep_merged_cells_fitting<R, D>(_concat: &Concat)
 where
     R: Records + ExactRecords + Resizable + RecordsMut<String>,
     R::Cell: CellText,
-    ensures table { let how = ⟦<Concat as TableOption<R, SpannedConfig, D>>⟧ in FitsAfter (how.does _concat.now) (how.leaves _concat.now) }
+    ensures table { KeepsFitting ⟦<Concat as TableOption<R, SpannedConfig, D>>⟧ _concat.now }
 {}
 
 /// Wraps are ordered by their width, and then by whether they keep words, those that don't first.
@@ -244,6 +244,6 @@ pub fn wraps_keep_merged_cells_fitting<R, D>(_wrap: &Wrap)
 where
     R: Records + ExactRecords + PeekableRecords + RecordsMut<String>,
     R::Cell: CellText,
-    ensures cells { let how = ⟦<Wrap as CellOption<R, SpannedConfig>>⟧ in FitsAfterEach (how.does _wrap.now) (how.leaves _wrap.now) }
-    ensures table { let how = ⟦<Wrap as TableOption<R, SpannedConfig, D>>⟧ in FitsAfter (how.does _wrap.now) (how.leaves _wrap.now) }
+    ensures cells { KeepsFittingOnEach ⟦<Wrap as CellOption<R, SpannedConfig>>⟧ _wrap.now }
+    ensures table { KeepsFitting ⟦<Wrap as TableOption<R, SpannedConfig, D>>⟧ _wrap.now }
 {}

@@ -3,8 +3,7 @@
 ghost use Rattle.std.specs.Prelude.{◌≡◌, ◌<◌, ◌≤◌, ◌-◌, ℕ, length, min, slice_index};
 ghost use Rattle.std.specs.List.Sorted.{IsStrictlyIncreasing};
 ghost use Rattle.tabled_grid.specs.Along.{count_along};
-ghost use Rattle.tabled_settings.specs.Lines.{BringsLines, KeepsLines, ReversesLines, indexes_in, is_marked};
-ghost use Rattle.tabled_settings.specs.Rearranged.{left_over};
+ghost use Rattle.tabled_settings.specs.Lines.{BringsLines, KeepsLines, ReversesLines, indexes_in, is_marked, unmarked};
 
 use std::ops::Range;
 use tabled_grid::config::Position;
@@ -94,7 +93,7 @@ where
     requires well { R.is_well_formed records.old }
     requires many { length gone.now ≡ count_along axis (R.grid records.old) }
     ensures well { R.is_well_formed records.new }
-    ensures kept { KeepsLines axis (left_over (is_marked gone.now) (length gone.now)) (R.grid records.old) (R.grid records.new) }
+    ensures kept { KeepsLines axis (unmarked gone.now) (R.grid records.old) (R.grid records.new) }
 {
     let kept = thin(axis, records, gone);
     records.truncate_lines(axis, kept);
@@ -109,8 +108,8 @@ where
     requires well { R.is_well_formed records.old }
     requires many { length gone.now ≡ count_along axis (R.grid records.old) }
     ensures well { R.is_well_formed records.new }
-    ensures brings { BringsLines axis (left_over (is_marked gone.now) (length gone.now)) result (R.grid records.old) (R.grid records.new) }
-    ensures many { result ≡ length (left_over (is_marked gone.now) (length gone.now)) }
+    ensures brings { BringsLines axis (unmarked gone.now) result (R.grid records.old) (R.grid records.new) }
+    ensures many { result ≡ length (unmarked gone.now) }
 {
     match axis {
         Axis::Rows => {
@@ -140,7 +139,7 @@ where
 
 /// How many lines have no mark.
 fn count_kept(gone: &[bool]) -> usize
-    ensures { result ≡ length (left_over (is_marked gone.now) (length gone.now)) }
+    ensures { result ≡ length (unmarked gone.now) }
 {
     let mut kept = 0;
     for i in 0..gone.len() {

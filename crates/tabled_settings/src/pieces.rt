@@ -5,54 +5,54 @@ ghost use Rattle.std.specs.Int.{div_ceil};
 ghost use Rattle.tabled_grid.specs.Along.{count_along};
 ghost use Rattle.tabled_grid.specs.Axis.{across};
 ghost use Rattle.tabled_grid.specs.Grid.{map_grid};
-ghost use Rattle.tabled_settings.specs.PiecePlaces.{kept_pieces};
+ghost use Rattle.tabled_settings.specs.PiecePlaces.{staying_pieces};
 ghost use Rattle.tabled_settings.specs.Pieces.{clean_split, oriented, stays_in};
 ghost use Rattle.tabled_settings.specs.PieceTexts.{NoText, SomeText};
 
 use std::alloc::{AllocError, Global};
 use std::ops::Range;
-use tabled_grid::records::{Axis, CellText, Cut, ExactRecords, PeekableRecords, Records};
+use tabled_grid::records::{Axis, CellText, ExactRecords, LinePieces, PeekableRecords, Records};
 
 /// Which pieces of lines stay that are to be cut, in order: the first one of each line, and of the others
 /// those with a text.
-pub(crate) fn kept_pieces<R>(
+pub(crate) fn staying_pieces<R>(
     alloc: Global,
     records: &R,
-    cut: &Cut,
+    pieces: &LinePieces,
 ) -> Result<Vec<usize>, AllocError>
 where
     R: Records + ExactRecords + PeekableRecords,
     R::Cell: CellText,
     requires well { R.is_well_formed records.now }
-    requires lines { cut.now.lines ≡ count_along cut.now.axis (R.grid records.now) }
-    requires width { cut.now.width ≡ count_along (across cut.now.axis) (R.grid records.now) }
-    ensures { IfOk result (λ kept. kept.items ≡ kept_pieces (clean_split cut.now) (oriented cut.now.axis (map_grid R.Cell.text_of (R.grid records.now)))) }
+    requires lines { pieces.now.lines ≡ count_along pieces.now.axis (R.grid records.now) }
+    requires width { pieces.now.width ≡ count_along (across pieces.now.axis) (R.grid records.now) }
+    ensures { IfOk result (λ staying. staying.items ≡ staying_pieces (clean_split pieces.now) (oriented pieces.now.axis (map_grid R.Cell.text_of (R.grid records.now)))) }
 {
-    let mut kept = Vec::new(alloc);
-    for nth in 0..cut.lines * cut.pieces {
-        if stays(records, cut, nth) {
-            kept.push(nth)?;
+    let mut staying = Vec::new(alloc);
+    for nth in 0..pieces.lines * pieces.pieces {
+        if stays(records, pieces, nth) {
+            staying.push(nth)?;
         }
     }
-    Ok(kept)
+    Ok(staying)
 }
 
 /// Whether a piece stays.
-fn stays<R>(records: &R, cut: &Cut, nth: usize) -> bool
+fn stays<R>(records: &R, pieces: &LinePieces, nth: usize) -> bool
 where
     R: Records + ExactRecords + PeekableRecords,
     R::Cell: CellText,
     requires well { R.is_well_formed records.now }
-    requires lines { cut.now.lines ≡ count_along cut.now.axis (R.grid records.now) }
-    requires width { cut.now.width ≡ count_along (across cut.now.axis) (R.grid records.now) }
-    requires within { nth < cut.now.lines * cut.now.pieces }
-    ensures { result ≡ stays_in (clean_split cut.now) (div_ceil cut.now.width cut.now.index) (map_grid R.Cell.text_of (R.grid records.now)) nth }
+    requires lines { pieces.now.lines ≡ count_along pieces.now.axis (R.grid records.now) }
+    requires width { pieces.now.width ≡ count_along (across pieces.now.axis) (R.grid records.now) }
+    requires within { nth < pieces.now.lines * pieces.now.pieces }
+    ensures { result ≡ stays_in (clean_split pieces.now) (div_ceil pieces.now.width pieces.now.index) (map_grid R.Cell.text_of (R.grid records.now)) nth }
 {
-    let index = cut.index;
-    let (line, number) = cut.order.nth_piece(cut.lines, cut.pieces, nth);
+    let index = pieces.index;
+    let (line, number) = pieces.order.nth_piece(pieces.lines, pieces.pieces, nth);
     let start = number * index;
-    let end = start + index.min(cut.width - start);
-    number == 0 || has_text(records, cut.axis, line, start..end)
+    let end = start + index.min(pieces.width - start);
+    number == 0 || has_text(records, pieces.axis, line, start..end)
 }
 
 /// Whether some cells of a line have a text.

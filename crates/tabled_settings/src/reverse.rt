@@ -5,13 +5,12 @@ ghost use Rattle.tabled_grid.specs.declared.config.offset.Offset.TheVariants.{En
 ghost use Rattle.tabled_grid.specs.declared.records.axis.Axis.TheVariants.{Columns, Rows};
 ghost use Rattle.tabled_grid.specs.Axis.{count_of, in_line, line_of};
 ghost use Rattle.tabled_grid.specs.Fitting.{Fits};
-ghost use Rattle.tabled_settings.specs.Places.{lines_from};
-ghost use Rattle.tabled_settings.specs.Rearranged.{ReversesTable, limit_end, reversed_index, reverses};
+ghost use Rattle.tabled_settings.specs.Rearranged.{ReversesTable, limit_end, lines_from, reversed_index, reverses};
 ghost use Rattle.std.proofs.Common.{rules};
 
 use crate::lines;
 use std::alloc::{AllocError, Global};
-use tabled_carry::{FittingSpans, Moves, MovesRectangles, image_of};
+use tabled_carry::{FittingSpans, Moves, MovesCells, MovesRectangles, image_of};
 use tabled_grid::config::{Entity, Offset, Position, Rectangle, Size, SpannedConfig};
 use tabled_grid::records::{Axis, Blank, ExactRecords, Records, Resizable};
 use tabled_options::TableOption;
@@ -107,8 +106,7 @@ where
     ) -> Result<(), AllocError> {
         let rows = records.count_rows();
         let columns = records.count_columns();
-        let count = self.axis.count(records);
-        let Some(end) = self.end(count) else {
+        let Some(end) = self.end(self.axis.count_of(rows, columns)) else {
             return Ok(());
         };
         let mirror = Mirror {
@@ -139,25 +137,15 @@ struct Mirror {
     end: usize,
     rows: usize,
     columns: usize,
+    ghost within: { end ≤ count_of axis rows columns },
 }
 
 impl Mirror {
-    /// The other place of a pair.
-    fn across(&self, pos: Position) -> Position
-        requires row { pos.row < self.now.rows }
-        requires col { pos.col < self.now.columns }
-        ensures { let m = self.now in result ≡ in_line m.axis pos (reversed_index m.start m.end (count_of m.axis m.rows m.columns) (line_of m.axis pos)) }
+    /// The other index of a pair, or an index beside the lines that are reversed.
+    fn index(&self, i: usize) -> usize
+        ensures { let m = self.now in result ≡ reversed_index m.start m.end (count_of m.axis m.rows m.columns) i }
     {
-        let count = self.axis.count_of(self.rows, self.columns);
-        self.axis
-            .in_line(pos, self.index(count, self.axis.line_of(pos)))
-    }
-
-    /// The other index of a pair, among `count` lines.
-    fn index(&self, count: usize, i: usize) -> usize
-        ensures { result ≡ reversed_index self.now.start self.now.end count i }
-    {
-        if self.end <= count && self.start <= i && i < self.end {
+        if self.start <= i && i < self.end {
             self.start + (self.end - 1 - i)
         } else {
             i
@@ -167,10 +155,13 @@ impl Mirror {
 
 impl Moves for Mirror {
     ghost places = { λ m. lines_from m.axis (reversed_index m.start m.end (count_of m.axis m.rows m.columns)) m.rows m.columns };
+}
 
+impl MovesCells for Mirror {
     fn new_place(&self, pos: Position) -> Option<Position> {
         if pos.row < self.rows && pos.col < self.columns {
-            Some(self.across(pos))
+            let line = self.index(self.axis.line_of(pos));
+            Some(self.axis.in_line(pos, line))
         } else {
             None
         }
@@ -183,8 +174,7 @@ impl MovesRectangles for Mirror {
             first,
             size: Size { height, width },
         } = of;
-        let count = self.axis.count_of(self.rows, self.columns);
-        if self.end > count || first.row + height > self.rows || first.col + width > self.columns {
+        if first.row + height > self.rows || first.col + width > self.columns {
             return image_of(self, of);
         }
         let line = self.axis.line_of(first);

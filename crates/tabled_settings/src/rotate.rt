@@ -83,17 +83,6 @@ struct Rotation {
 
 impl Moves for Rotation {
     ghost places = { λ t. rotated t.rotate t.rows t.columns };
-
-    fn new_place(&self, pos: Position) -> Option<Position> {
-        if pos.row >= self.rows || pos.col >= self.columns {
-            return None;
-        }
-        Some(match self.rotate {
-            Rotate::Left => Position::new(self.columns - 1 - pos.col, pos.row),
-            Rotate::Right => Position::new(pos.col, self.rows - 1 - pos.row),
-            Rotate::Top | Rotate::Bottom => Position::new(self.rows - 1 - pos.row, pos.col),
-        })
-    }
 }
 
 impl MovesRectangles for Rotation {

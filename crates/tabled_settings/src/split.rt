@@ -8,14 +8,15 @@ ghost use Rattle.tabled_settings.specs.PiecePlaces.{SplitsTable};
 ghost use Rattle.tabled_settings.specs.Pieces.{has_pieces};
 ghost use Rattle.std.proofs.Common.{rules};
 
-use crate::cuts::CleanCut;
-use crate::{lines, pieces};
+use crate::clean_pieces::CleanPieces;
+use crate::lines;
+use crate::pieces::staying_pieces;
 use std::alloc::{AllocError, Global};
 use tabled_carry::FittingSpans;
 use tabled_grid::config::{Entity, SpannedConfig};
 pub use tabled_grid::records::PieceOrder as Behavior;
 use tabled_grid::records::{
-    Axis, CellText, Cut, ExactRecords, PeekableRecords, Records, Resizable,
+    Axis, CellText, ExactRecords, LinePieces, PeekableRecords, Records, Resizable,
 };
 use tabled_options::TableOption;
 
@@ -158,31 +159,20 @@ where
         if lines == 0 || self.index == 0 || self.index >= width {
             return Ok(());
         }
-        let pieces = width.div_ceil(self.index);
-        if lines.checked_mul(pieces).is_none() {
-            return Err(AllocError);
-        }
-        let cut = Cut {
-            axis: self.lines,
-            order: self.behavior,
-            index: self.index,
-            lines,
-            width,
-            pieces,
-        };
+        let pieces = LinePieces::new(self.lines, self.behavior, self.index, lines, width)?;
         match self.display {
             Display::Clean => {
-                let kept = pieces::kept_pieces(alloc, records, &cut)?;
-                let clean = CleanCut { cut, kept };
+                let staying = staying_pieces(alloc, records, &pieces)?;
+                let clean = CleanPieces { pieces, staying };
                 let fitting = FittingSpans::of(alloc, cfg, rows, columns)?;
                 records.cut(alloc, self.lines, self.behavior, self.index)?;
-                lines::keep_some(self.lines, records, &clean.kept);
+                lines::keep_some(self.lines, records, &clean.staying);
                 fitting.carry_along(alloc, &clean, cfg);
             }
             Display::Retain => {
                 let fitting = FittingSpans::of(alloc, cfg, rows, columns)?;
                 records.cut(alloc, self.lines, self.behavior, self.index)?;
-                fitting.carry_along(alloc, &cut, cfg);
+                fitting.carry_along(alloc, &pieces, cfg);
             }
         }
         Ok(())

@@ -40,7 +40,7 @@ pub use from_text::FromText;
 pub use grid_store::GridStore;
 pub use peekable_records::PeekableRecords;
 pub use piece_order::PieceOrder;
-pub use pieces::Cut;
+pub use pieces::LinePieces;
 pub use records::Records;
 pub use records_mut::RecordsMut;
 pub use refusing::Refusing;

@@ -1,6 +1,6 @@
 //! Lines of a store cut into pieces, each cell moved once.
 
-ghost use Rattle.std.specs.Prelude.{◌≡◌, ◌*◌, ◌<◌, ◌^◌, OnErr, OnOk};
+ghost use Rattle.std.specs.Prelude.{◌≡◌, ◌*◌, ◌<◌, ◌^◌, IfOk, OnErr, OnOk};
 ghost use Rattle.std.specs.Int.{div_ceil};
 ghost use Rattle.tabled_grid.specs.Along.{count_along};
 ghost use Rattle.tabled_grid.specs.Axis.{across};
@@ -16,10 +16,10 @@ use crate::records::piece_order::PieceOrder;
 use crate::records::records::Records;
 use std::alloc::{AllocError, Global};
 
-/// n lines of a width that are cut into pieces, of which there are at most `usize::MAX`.
+/// n lines of a width in pieces, of which there are at most `usize::MAX`.
 #[doc(hidden)]
 #[derive(Drop)]
-pub struct Cut {
+pub struct LinePieces {
     pub axis: Axis,
     pub order: PieceOrder,
     pub index: usize,
@@ -34,10 +34,43 @@ pub struct Cut {
     ghost numbered: { lines * pieces < 2 ^ 64 },
 }
 
-impl Rearrange for Cut {
+impl LinePieces {
+    /// The pieces of lines that are longer than a piece. Refused where there are more than `usize::MAX`.
+    pub fn new(
+        axis: Axis,
+        order: PieceOrder,
+        index: usize,
+        lines: usize,
+        width: usize,
+    ) -> Result<Self, AllocError>
+        requires some { 0 < lines }
+        requires some_cells { 0 < index }
+        requires narrow { index < width }
+        ensures axis { IfOk result (λ p. p.axis ≡ axis) }
+        ensures order { IfOk result (λ p. p.order ≡ order) }
+        ensures index { IfOk result (λ p. p.index ≡ index) }
+        ensures lines { IfOk result (λ p. p.lines ≡ lines) }
+        ensures width { IfOk result (λ p. p.width ≡ width) }
+    {
+        let pieces = width.div_ceil(index);
+        if lines.checked_mul(pieces).is_none() {
+            return Err(AllocError);
+        }
+        Ok(LinePieces {
+            axis,
+            order,
+            index,
+            lines,
+            width,
+            pieces,
+        })
+    }
+}
+
+impl Rearrange for LinePieces {
     ghost use Rattle.tabled_grid.specs.Pieces.{cut_places};
 
-    ghost places = { λ c. cut_places c.axis c.order c.index c.lines c.width };
+    ghost places = { λ p. cut_places p.axis p.order p.index p.lines p.width };
 
     fn old_place(&self, to: Position) -> Option<Position> {
         let target = self.axis.line_of(to);
@@ -73,19 +106,9 @@ where
 {
     let lines = axis.count(records);
     let width = axis.across().count(records);
-    let pieces = width.div_ceil(index);
-    let Some(all) = lines.checked_mul(pieces) else {
-        return Err(AllocError);
-    };
-    let cut = Cut {
-        axis,
-        order,
-        index,
-        lines,
-        width,
-        pieces,
-    };
+    let pieces = LinePieces::new(axis, order, index, lines, width)?;
+    let all = lines * pieces.pieces;
     let rows = axis.count_of(all, index);
     let columns = axis.count_of(index, all);
-    gather(alloc, records, &cut, rows, columns)
+    gather(alloc, records, &pieces, rows, columns)
 }

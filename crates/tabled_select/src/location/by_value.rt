@@ -8,7 +8,7 @@ ghost use Rattle.tabled_grid.specs.declared.config.position.Position.{Position};
 ghost use Rattle.tabled_select.specs.Algebra.{cells_of};
 ghost use Rattle.tabled_select.specs.Locators.{NamedHeldLast};
 
-use crate::object::{EntityOnce, Object, NamedPlaces, entities};
+use crate::object::{EntityOnce, NamedPlaces, Object, entities};
 use std::alloc::{AllocError, Global};
 use std::marker::Model;
 use tabled_grid::config::{Entity, Position};

@@ -4,8 +4,8 @@ ghost use Rattle.std.specs.Prelude.{◌≡◌, IfOk};
 ghost use Rattle.std.specs.Iterator.{YieldsFirst, item_count};
 ghost use Rattle.tabled_select.specs.Algebra.{cells_of, flat, sifted};
 
-use crate::object::place_set::PlaceSet;
 use crate::object::named_places::{NamedPlaces, count_named};
+use crate::object::place_set::PlaceSet;
 use std::alloc::{AllocError, Global};
 use std::marker::{Model, PhantomData};
 use tabled_grid::config::Entity;

@@ -4,11 +4,11 @@ use Rattle.tabled_settings.proofs.duplicate.most_named.Goals as goal
 -- a bound on the counts of the first entities, and one on that of the next
 more : (entities : List Entity) (rows columns i most greater : ℕ) → ((k : ℕ) → k < i → length (inside (get_or entities k Global) rows columns) ≤ most) → most ≤ greater → length (inside (get_or entities i Global) rows columns) ≤ greater →
     (k : ℕ) → k < i + 1 → length (inside (get_or entities k Global) rows columns) ≤ greater
-more entities rows columns i most greater first large next k below = by (cases_lt k i)
+more entities rows columns i most greater first large next k below = bounded (cases_lt k i)
   where
-    by : (k < i) ⊎ (i ≤ k) → length (inside (get_or entities k Global) rows columns) ≤ greater
-    by (inl before) = omega (arith, first k before, large)
-    by (inr last) =
+    bounded : (k < i) ⊎ (i ≤ k) → length (inside (get_or entities k Global) rows columns) ≤ greater
+    bounded (inl before) = omega (arith, first k before, large)
+    bounded (inr last) =
         let same : k ≡ i = omega (arith, below, last) in
         rw same next
 

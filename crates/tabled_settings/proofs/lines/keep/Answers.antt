@@ -1,6 +1,6 @@
 use Rattle.tabled_settings.proofs.Common.{◌+◌, ◌-◌, ◌<◌, ◌≡◌, ◌≤◌, BringsLines, arith, count_along, get_or-range_with_len, length-range_with_len, range_with_len, refl, same_count, subst, sym, ℕ}
 use Rattle.std.proofs.Common.{min}
-use Rattle.tabled_settings.proofs.Kept.{brings_more, brings_none, front_brought, kept_all}
+use Rattle.tabled_settings.proofs.KeptLines.{brings_more, brings_none, front_brought, kept_all}
 use Rattle.tabled_settings.proofs.RisingLists.{range_rises}
 use Rattle.tabled_settings.proofs.lines.keep.Goals as goal
 

@@ -1,5 +1,5 @@
 use Rattle.tabled_settings.proofs.Common.{◌+◌, ◌≡◌, arith, get_or, length, refl, same_count}
-use Rattle.tabled_settings.proofs.Kept.{brings_more, brings_none, kept_all}
+use Rattle.tabled_settings.proofs.KeptLines.{brings_more, brings_none, kept_all}
 use Rattle.tabled_settings.proofs.RisingLists.{index_within, length_within}
 use Rattle.tabled_settings.proofs.lines.keep_some.Goals as goal
 

@@ -1,6 +1,6 @@
 use Rattle.tabled_settings.proofs.Common.{◌≤◌, arith, count_along, is_marked, left_over, length, same_count}
 use Rattle.tabled_settings.proofs.Dropped.{left_few}
-use Rattle.tabled_settings.proofs.Kept.{kept_all}
+use Rattle.tabled_settings.proofs.KeptLines.{kept_all}
 use Rattle.tabled_settings.proofs.lines.remove.Goals as goal
 
 pub truncate_lines-requires-clause-within : goal.truncate_lines-requires-clause-within

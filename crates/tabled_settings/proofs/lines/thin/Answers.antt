@@ -1,6 +1,6 @@
 use Rattle.tabled_settings.proofs.Common.{◌+◌, ◌∙◌, ◌≡◌, Position, Rows, ap, ap₂, arith, get_or, is_marked, left_over, length, place, refl, same_count, subst, sym, with_cells_swapped, ℕ}
 use Rattle.tabled_settings.proofs.Dropped.{left_at, left_more_gone, left_more_kept, thinned, thinned-gone, thinned-kept, thinned-none, thinned_rows}
-use Rattle.tabled_settings.proofs.Kept.{brings_more, brings_none}
+use Rattle.tabled_settings.proofs.KeptLines.{brings_more, brings_none}
 use Rattle.tabled_settings.proofs.RisingLists.{left_rises}
 use Rattle.tabled_settings.proofs.RowByRow.{Underway, underway-all, underway-more, underway-next, underway-none, underway-skip}
 use Rattle.tabled_settings.proofs.lines.thin.Goals as goal

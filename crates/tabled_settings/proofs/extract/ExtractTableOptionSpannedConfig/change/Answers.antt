@@ -1,5 +1,5 @@
 use Rattle.tabled_settings.proofs.Common.{◌∙◌, ap, end_index}
-use Rattle.tabled_settings.proofs.Kept.{extract_carried, extract_done}
+use Rattle.tabled_settings.proofs.KeptLines.{extract_carried, extract_done}
 use Rattle.tabled_settings.proofs.extract.ExtractTableOptionSpannedConfig.change.Goals as goal
 
 pub returns-clause-ok : goal.returns-clause-ok

@@ -1,4 +1,4 @@
-use Rattle.tabled_settings.proofs.Common.{◌∙◌, sym}
+use Rattle.tabled_settings.proofs.Common.{◌∙◌, ◌≡◌, count_of}
 use Rattle.tabled_settings.proofs.Reversed.{reversed_done}
 use Rattle.tabled_settings.proofs.LineReads.{counted}
 use Rattle.tabled_settings.proofs.MirroredSpans.{reversal_carried}
@@ -7,7 +7,9 @@ use Rattle.tabled_settings.proofs.reverse.ReverseTableOptionSpannedConfig.change
 pub returns-clause-ok : goal.returns-clause-ok
 returns-clause-ok g c =
     let end = c.in-Some.ensures.some in
-    let grid = g.R.GridStore.grid c.args.records.now in (
-      reversed_done _ _ _ _ _ c.count-count.ensures.count _ _ end.0 end.2 c.reverse.ensures.reversed,
-      reversal_carried c.args.self.axis c.args.self.start c.args.self.limit grid.rows grid.columns _ _ c.in-Some.end c.count-count.result _ _ c.count_rows-rows.ensures.rows c.count_columns-columns.ensures.columns (c.count-count.ensures.count ∙ sym (counted c.args.self.axis grid)) end.0 end.1 end.2 (rw (c.in_ok-fitting.ensures.rows, c.in_ok-fitting.ensures.columns) at c.carry_along.ensures.carried),
+    let axis = c.args.self.axis in
+    let grid = g.R.GridStore.grid c.args.records.now in
+    let count : c.count_of.result ≡ count_of axis grid.rows grid.columns = rw (c.count_rows-rows.ensures.rows, c.count_columns-columns.ensures.columns) at c.count_of.ensures in (
+      reversed_done _ _ _ _ _ (count ∙ counted axis grid) _ _ end.0 end.2 c.reverse.ensures.reversed,
+      reversal_carried axis c.args.self.start c.args.self.limit grid.rows grid.columns _ _ c.in-Some.end c.count_of.result _ _ c.count_rows-rows.ensures.rows c.count_columns-columns.ensures.columns count end.0 end.1 end.2 (rw (c.in_ok-fitting.ensures.rows, c.in_ok-fitting.ensures.columns) at c.carry_along.ensures.carried),
     )

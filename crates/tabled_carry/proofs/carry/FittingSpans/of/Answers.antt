@@ -1,8 +1,0 @@
-use Rattle.tabled_carry.proofs.Common.{keep_fitting-all, sym}
-use Rattle.tabled_carry.proofs.carry.FittingSpans.of.Goals as goal
-
-pub returns-clause-found : goal.returns-clause-found
-returns-clause-found c = elim c.if-fits.branch [
-  | goal.then-fits w ↦ rw w.fitting-is (sym (keep_fitting-all c.args.rows c.args.columns c.args.cfg.now (c.fits.ensures.fits.0 w.if-fits.true)))
-  | goal.else-fits+in_ok-fitting w ↦ rw w.fitting-is w.in_ok-fitting.ensures.fitting
-]
