@@ -12,11 +12,11 @@ use Rattle.tabled_draw.specs.Texts.{text_width}
 use Rattle.tabled_draw.specs.declared.alignment.Alignment.{Alignment}
 use Rattle.tabled_draw.specs.declared.alignment.Alignment.TheVariants.{Left, Center, Right}
 use Rattle.tabled_grid.specs.Anchors.{is_hidden_in}
-use Rattle.tabled_grid.specs.Covers.{Cover, cover_of}
+use Rattle.tabled_grid.specs.Covers.{Cover, IsCoverOf}
 use Rattle.tabled_grid.specs.Entity.{place}
 use Rattle.tabled_grid.specs.Fitting.{fitting}
 use Rattle.tabled_grid.specs.Grid.{Grid, map_items}
-use Rattle.tabled_grid.specs.Spans.{SpanMap, rectangles}
+use Rattle.tabled_grid.specs.Spans.{SpanMap, rectangle, rectangles, sized}
 use Rattle.tabled_grid.specs.declared.config.rectangle.Rectangle.{Rectangle}
 use Rattle.tabled_grid.specs.declared.config.position.Position.{Position}
 
@@ -139,22 +139,20 @@ abbrev pub rows_of_characters : List (Vec (String Global)) → List (List (List 
 rows_of_characters rows = map (map characters) (map_items rows)
 
 -- counts of how often places are hidden are those of all places of a table
-pub record IsOver {A : Type 0} (g : Grid A) (cover : Cover) : Type 0 where
-  pub first : cover.first ≡ place 0 0
-  pub rows : cover.rows ≡ g.rows
-  pub columns : cover.columns ≡ g.columns
+abbrev pub IsOver : {A : Type 0} → Grid A → Cover → Type 0
+IsOver g cover = cover.block ≡ rectangle (place 0 0) (sized g.rows g.columns)
 
 -- a text is that of a place, where the table's merged cells are those that are counted
 abbrev pub IsCellApart : Grid (List ℕ) → Cover → Position → String Global → Type 0
-IsCellApart g cover p text = (m : SpanMap) → cover ≡ cover_of m g.rows g.columns → characters text ≡ cell_apart g (rectangles m) p
+IsCellApart g cover p text = (m : SpanMap) → IsCoverOf m cover → characters text ≡ cell_apart g (rectangles m) p
 
 -- texts are those of row i, likewise
 abbrev pub IsRowApart : Grid (List ℕ) → Cover → ℕ → List (String Global) → Type 0
-IsRowApart g cover i row = (m : SpanMap) → cover ≡ cover_of m g.rows g.columns → map characters row ≡ row_apart g (rectangles m) i
+IsRowApart g cover i row = (m : SpanMap) → IsCoverOf m cover → map characters row ≡ row_apart g (rectangles m) i
 
 -- texts are those of all rows, likewise
 abbrev pub AreRowsApart : Grid (List ℕ) → Cover → List (Vec (String Global)) → Type 0
-AreRowsApart g cover rows = (m : SpanMap) → cover ≡ cover_of m g.rows g.columns → rows_of_characters rows ≡ rows_apart g (rectangles m)
+AreRowsApart g cover rows = (m : SpanMap) → IsCoverOf m cover → rows_of_characters rows ≡ rows_apart g (rectangles m)
 
 -- each width is raised to that of the text in its column
 abbrev pub AreRaised : List (List ℕ) → List ℕ → List ℕ → Type 0

@@ -36,8 +36,8 @@ pub use Rattle.tabled_grid.specs.Anchors.{anchor_of, are_apart, dropped, is_hidd
 pub use Rattle.tabled_grid.specs.Axis.{across, count_of, line_of, lines_in, next_line, place_in}
 pub use Rattle.tabled_grid.specs.Bulk.{AddsColumns, AddsRows, Exchanges, cell_in, transposed, transposed_rows, turned_places, with_items_behind}
 pub use Rattle.tabled_grid.specs.CellCounts.{CountsBlock, IsFew, IsMany, counts_of}
-pub use Rattle.tabled_grid.specs.Covers.{Cover, IsNumbered, Stepped, Steps, beyond, hiders_in, hiders_of, hides, in_run, table}
-pub use Rattle.tabled_grid.specs.Entity.{block, inside, names, place, row_places, same_place}
+pub use Rattle.tabled_grid.specs.Covers.{Cover, IsCoverOf, IsNumbered, Stepped, Steps, area, beyond, hider_counts, hiders_in, hiders_of, hides, in_run, table}
+pub use Rattle.tabled_grid.specs.Entity.{block, column_named, inside, lines_named, names, place, places_in, row_named, row_places, same_place}
 pub use Rattle.tabled_grid.proofs.Evenness.{is_even}
 pub use Rattle.tabled_grid.specs.Evenness.{AreWide, length-chunks, no_columns, wide-chunks}
 pub use Rattle.tabled_grid.specs.Fitting.{Fits, fits_among, fitting, keep_fitting, with_met}

@@ -1,5 +1,5 @@
 -- How many anchors hide a place, and how that follows the map.
-use Rattle.tabled_grid.proofs.Common.{[], ◌%◌, ◌*◌, ◌+◌, ◌-◌, ◌<◌, ◌||◌, ◌∙◌, ◌∷◌, ◌≡◌, ◌≢◌, ◌≤◌, ◌⊎◌, AllByRecursion, AreSorted, Bool, In, IsNumbered, List, None, Option, Position, Rectangle, Size, Some, SpanMap, Stepped, Steps, ap, ap₂, arith, beyond, cases_Bool, cases_lt, common_steps, cond, count_by, eq_by_cmp, false, false_from_ne_true, false≢true, get, get_or, hiders_in, hiders_of, hides, inl, inr, is_hidden, is_span, length, list_any, lt-ltb, mul-le-mul_right, nat_lt, not, place, position_cmp, rectangle, rectangles, refl, replicate, rules, size_at, sized, subst, sym, table, take, tied_itself, true, unwrap_or, with_size, ℕ}
+use Rattle.tabled_grid.proofs.Common.{[], ◌%◌, ◌*◌, ◌+◌, ◌-◌, ◌<◌, ◌||◌, ◌∙◌, ◌∷◌, ◌≡◌, ◌≢◌, ◌≤◌, ◌⊎◌, AllByRecursion, AreSorted, Bool, In, IsNumbered, List, None, Option, Position, Rectangle, Size, Some, SpanMap, Stepped, Steps, ap, ap₂, area, arith, beyond, cases_Bool, cases_lt, common_steps, cond, count_by, eq_by_cmp, false, false_from_ne_true, false≢true, get, get_or, hider_counts, hiders_in, hiders_of, hides, inl, inr, is_hidden, is_span, length, list_any, lt-ltb, mul-le-mul_right, nat_lt, not, place, position_cmp, rectangle, rectangles, refl, replicate, rules, size_at, sized, subst, sym, take, tied_itself, true, unwrap_or, with_size, ℕ}
 use Rattle.std.proofs.Math.Nat.{add-mod_right, mod-eq_of_lt}
 use Rattle.std.proofs.lemmas.List.Sums.{count_by_more_no, count_by_more_yes, sum_by-cons, sum_by-take-le}
 use Rattle.tabled_grid.proofs.PassedAnchors.{Earlier, earlier}
@@ -157,14 +157,14 @@ one-less n k limit is below =
 one_more-is : (n k limit : ℕ) → n ≡ k + 1 → n < limit → (k + 1) % limit ≡ n
 one_more-is n k limit is below = ap (λ i. i % limit) (sym is) ∙ mod-eq_of_lt below
 
-module _ (m : SpanMap) (a : Position) (old new : Size) (first : Position) (rows columns : ℕ) (limit : ℕ) (has : size_at m a ≡ old) (fits : IsNumbered limit first rows columns) where
+module _ (m : SpanMap) (a : Position) (old new : Size) (cells : Rectangle) (limit : ℕ) (has : size_at m a ≡ old) (fits : IsNumbered limit cells) where
   abbrev at : ℕ → ℕ → Position
-  at i j = beyond first (place i j)
+  at i j = beyond cells.first (place i j)
 
-  few_of : (n : SpanMap) (i j : ℕ) → i < rows → j < columns → hiders_of n (at i j) < limit
-  few_of n i j h k = hiders-fit limit (first.row + rows) (first.col + columns) (at i j) (rectangles n) (rectangles_sorted n) (omega arith) (omega arith) fits.cells
+  few_of : (n : SpanMap) (i j : ℕ) → i < cells.size.height → j < cells.size.width → hiders_of n (at i j) < limit
+  few_of n i j h k = hiders-fit limit (cells.first.row + cells.size.height) (cells.first.col + cells.size.width) (at i j) (rectangles n) (rectangles_sorted n) (omega arith) (omega arith) fits.numbers
 
-  taken : Stepped (λ p. hides (beyond first p) (rectangle a old)) (limit - 1) limit rows columns (λ p. hiders_of m (beyond first p)) (λ p. hiders_in (rest m a) (beyond first p))
+  taken : Stepped (λ p. hides (beyond cells.first p) (rectangle a old)) (limit - 1) limit cells.size (λ p. hiders_of m (beyond cells.first p)) (λ p. hiders_in (rest m a) (beyond cells.first p))
   taken = record {
     here = λ i j h k t. sym (one-less _ _ limit (was i j ∙ ap (λ n. hiders_in (rest m a) (at i j) + n) (one-if (hides (at i j) (rectangle a old)) t)) (few_of m i j h k));
     others = λ i j h k t. omega (arith, was i j, none-if (hides (at i j) (rectangle a old)) t);
@@ -173,7 +173,7 @@ module _ (m : SpanMap) (a : Position) (old new : Size) (first : Position) (rows 
       was : (i j : ℕ) → hiders_of m (at i j) ≡ hiders_in (rest m a) (at i j) + cond (hides (at i j) (rectangle a old)) 1 0
       was i j = hiders-apart m a (at i j) ∙ ap (λ size. hiders_in (rest m a) (at i j) + cond (hides (at i j) (rectangle a size)) 1 0) has
 
-  given : Stepped (λ p. hides (beyond first p) (rectangle a new)) 1 limit rows columns (λ p. hiders_in (rest m a) (beyond first p)) (λ p. hiders_of (with_size m a new) (beyond first p))
+  given : Stepped (λ p. hides (beyond cells.first p) (rectangle a new)) 1 limit cells.size (λ p. hiders_in (rest m a) (beyond cells.first p)) (λ p. hiders_of (with_size m a new) (beyond cells.first p))
   given = record {
     here = λ i j h k t. sym (one_more-is _ _ limit (is i j ∙ ap (λ n. hiders_in (rest m a) (at i j) + n) (one-if (hides (at i j) (rectangle a new)) t)) (few_of (with_size m a new) i j h k));
     others = λ i j h k t. omega (arith, is i j, none-if (hides (at i j) (rectangle a new)) t);
@@ -183,18 +183,18 @@ module _ (m : SpanMap) (a : Position) (old new : Size) (first : Position) (rows 
       is i j = hiders-with m a (at i j) new
 
   -- a rectangle is taken away, and another given
-  pub hiders-replaced : (xs ys zs : List ℕ) → Steps xs ys (λ p. hides (beyond first p) (rectangle a old)) (limit - 1) limit rows columns → Steps ys zs (λ p. hides (beyond first p) (rectangle a new)) 1 limit rows columns → xs ≡ table (λ p. hiders_of m (beyond first p)) rows columns → zs ≡ table (λ p. hiders_of (with_size m a new) (beyond first p)) rows columns
-  hiders-replaced xs ys zs back on is = on.is (λ p. hiders_in (rest m a) (beyond first p)) (λ p. hiders_of (with_size m a new) (beyond first p)) given (back.is (λ p. hiders_of m (beyond first p)) (λ p. hiders_in (rest m a) (beyond first p)) taken is)
+  pub hiders-replaced : (xs ys zs : List ℕ) → Steps xs ys (λ p. hides (beyond cells.first p) (rectangle a old)) (limit - 1) limit cells.size → Steps ys zs (λ p. hides (beyond cells.first p) (rectangle a new)) 1 limit cells.size → xs ≡ hider_counts (rectangles m) cells → zs ≡ hider_counts (rectangles (with_size m a new)) cells
+  hiders-replaced xs ys zs back on is = on.is (λ p. hiders_in (rest m a) (beyond cells.first p)) (λ p. hiders_of (with_size m a new) (beyond cells.first p)) given (back.is (λ p. hiders_of m (beyond cells.first p)) (λ p. hiders_in (rest m a) (beyond cells.first p)) taken is)
 
 -- one anchor of a sorted list more
-pub hiders-more : (es : List Rectangle) (n : ℕ) (d : Rectangle) (xs ys : List ℕ) (first : Position) (step limit rows columns : ℕ) → AreSorted es → n < length es → IsNumbered limit first rows columns → step ≡ 1 → Steps xs ys (λ p. hides (beyond first p) (get_or es n d)) step limit rows columns → xs ≡ table (λ p. hiders_in (take n es) (beyond first p)) rows columns → ys ≡ table (λ p. hiders_in (take (n + 1) es) (beyond first p)) rows columns
-hiders-more es n d xs ys first step limit rows columns up here fits one steps is = steps.is (λ p. hiders_in (take n es) (beyond first p)) (λ p. hiders_in (take (n + 1) es) (beyond first p)) (record {
-  here = λ i j h k t. sym (ap (λ s. (hiders_in (take n es) (beyond first (place i j)) + s) % limit) one ∙ one_more-is _ _ limit
-      (omega (arith, count_by_more_yes (hides (beyond first (place i j))) es n d here t))
-      (omega (arith, sum_by-take-le (λ e. cond (hides (beyond first (place i j)) e) 1 0) es (n + 1), hiders-fit limit (first.row + rows) (first.col + columns) (beyond first (place i j)) es up (omega arith) (omega arith) fits.cells)));
-  others = λ i j h k t. count_by_more_no (hides (beyond first (place i j))) es n d here t;
+pub hiders-more : (es : List Rectangle) (n : ℕ) (d : Rectangle) (xs ys : List ℕ) (cells : Rectangle) (step limit : ℕ) → AreSorted es → n < length es → IsNumbered limit cells → step ≡ 1 → Steps xs ys (λ p. hides (beyond cells.first p) (get_or es n d)) step limit cells.size → xs ≡ hider_counts (take n es) cells → ys ≡ hider_counts (take (n + 1) es) cells
+hiders-more es n d xs ys cells step limit up here fits one steps is = steps.is (λ p. hiders_in (take n es) (beyond cells.first p)) (λ p. hiders_in (take (n + 1) es) (beyond cells.first p)) (record {
+  here = λ i j h k t. sym (ap (λ s. (hiders_in (take n es) (beyond cells.first (place i j)) + s) % limit) one ∙ one_more-is _ _ limit
+      (omega (arith, count_by_more_yes (hides (beyond cells.first (place i j))) es n d here t))
+      (omega (arith, sum_by-take-le (λ e. cond (hides (beyond cells.first (place i j)) e) 1 0) es (n + 1), hiders-fit limit (cells.first.row + cells.size.height) (cells.first.col + cells.size.width) (beyond cells.first (place i j)) es up (omega arith) (omega arith) fits.numbers)));
+  others = λ i j h k t. count_by_more_no (hides (beyond cells.first (place i j))) es n d here t;
 }) is
 
 -- no anchor hides a place yet
-pub hiders-none : (first : Position) (rows columns : ℕ) (xs : List ℕ) → xs ≡ replicate (rows * columns) 0 → xs ≡ table (λ p. hiders_in [] (beyond first p)) rows columns
-hiders-none first rows columns xs is = is ∙ sym (table-zero rows columns (rows * columns) refl)
+pub hiders-none : (cells : Rectangle) (xs : List ℕ) → xs ≡ replicate (area cells.size) 0 → xs ≡ hider_counts [] cells
+hiders-none cells xs is = is ∙ sym (table-zero cells.size)

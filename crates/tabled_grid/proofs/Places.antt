@@ -1,5 +1,5 @@
 -- The places that an entity names, as blocks of places.
-use Rattle.tabled_grid.proofs.Common.{[], ◌&&◌, ◌++◌, ◌+◌, ◌-◌, ◌<◌, ◌==◌, ◌∙◌, ◌∷◌, ◌≡◌, ◌≤◌, ◌⊎◌, All, All-append, All-filter, All-map, All-nil, AllByRecursion, Bool, List, Position, ap, arith, block, common_steps, cond, drop, drop_at, drop_more, false, filter, filter-append, filter_agree, flat_map, get_or, get_or_append_left, inl, inr, inside, length, length-append, map, names, ne_eqb, place, range_with_len, recursion_from_All, refl, row_places, sub_self, suc, sym, true, zero, ℕ}
+use Rattle.tabled_grid.proofs.Common.{[], ◌&&◌, ◌++◌, ◌+◌, ◌-◌, ◌<◌, ◌==◌, ◌∙◌, ◌∷◌, ◌≡◌, ◌≤◌, ◌↔◌, ◌⊎◌, All, All-append, All-filter, All-map, All-nil, AllByRecursion, Bool, In, List, Position, Rectangle, ap, ap₂, arith, block, cases_lt, column_named, common_steps, cond, drop, drop_at, drop_more, false, filter, filter-append, filter_agree, flat_map, get_or, get_or_append_left, inl, inr, inside, length, length-append, lines_named, map, names, ne_eqb, place, places_in, range_with_len, rectangle, recursion_from_All, refl, row_named, row_places, sized, sub_self, suc, sym, true, zero, ℕ}
 use Rattle.std.proofs.lemmas.Bool.{eq-eqb}
 use Rattle.std.proofs.lemmas.List.FromFn.{length-range_with_len, get_or-range_with_len, length-map-range_with_len, get_or-map-range_with_len}
 use Rattle.tabled_grid.specs.declared.config.entity.Entity.{Entity}
@@ -143,6 +143,25 @@ pub inside-no_cell : (i j r c : ℕ) → (r ≤ i) ⊎ (c ≤ j) → inside (Cel
 inside-no_cell i j r c (inl h) = kept (λ n. n == i) (λ n. n == j) r c [] (filter (λ n. n == j) (range_with_len 0 c)) (filter-outside i 0 r (omega arith)) refl
 inside-no_cell i j r c (inr h) = kept (λ n. n == i) (λ n. n == j) r c (filter (λ n. n == i) (range_with_len 0 r)) [] refl (filter-outside j 0 c (omega arith)) ∙ flat_map_nil (λ (n : ℕ). []) (λ n. refl) (filter (λ n. n == i) (range_with_len 0 r))
 
+-- the block of those that an entity names
+abbrev block_named : Entity → ℕ → ℕ → Rectangle
+block_named e r c = rectangle (place (lines_named (row_named e) r).0 (lines_named (column_named e) c).0) (sized (lines_named (row_named e) r).1 (lines_named (column_named e) c).1)
+
+pub inside-block : (e : Entity) (r c : ℕ) → inside e r c ≡ places_in (block_named e r c)
+inside-block Global r c =
+    let tall : r ≡ 0 + r = omega arith in
+    let wide : c ≡ 0 + c = omega arith in
+    inside-Global r c ∙ ap₂ (λ b d. block 0 b 0 d) tall wide
+inside-block (Column j) r c = grind (arith, common_steps, inside-Column, inside-no_column, block-no_columns, cases_lt)
+inside-block (Row i) r c = grind (arith, common_steps, inside-Row, inside-no_row, block-no_rows, cases_lt)
+inside-block (Cell i j) r c = grind (arith, common_steps, inside-Cell, inside-no_cell, block-no_rows, block-no_columns, cases_lt)
+
+pub named-in : (e : Entity) (r c : ℕ) (p : Position) → In (block_named e r c) p ↔ ((names e p ≡ true) × (p.row < r) × (p.col < c))
+named-in Global r c p = grind (arith, common_steps)
+named-in (Column j) r c p = grind (arith, common_steps, cases_lt)
+named-in (Row i) r c p = grind (arith, common_steps, cases_lt)
+named-in (Cell i j) r c p = grind (arith, common_steps, cases_lt)
+
 -- what holds of each place in n rows and m columns
 places-all : (P : Position → Type 0) (a n c m : ℕ) → ((i j : ℕ) → a ≤ i → i < a + n → c ≤ j → j < c + m → P (place i j)) → All P (places (range_with_len a n) (range_with_len c m))
 places-all P a zero c m h = All-nil P
@@ -158,3 +177,7 @@ inside-all P e r c h = recursion_from_All _ _ (All-filter (names e) P (block 0 r
 
 pub inside-within : (e : Entity) (r c : ℕ) → AllByRecursion (λ (p : Position). (p.row < r) × (p.col < c)) (inside e r c)
 inside-within e r c = inside-all _ e r c (λ i j h k. (h, k))
+
+-- a rectangle holds its places
+pub places_in-all : (e : Rectangle) → AllByRecursion (In e) (places_in e)
+places_in-all e = recursion_from_All _ _ (places-all (In e) e.first.row (e.first.row + e.size.height - e.first.row) e.first.col (e.first.col + e.size.width - e.first.col) (λ i j above below left right. record { top = above; bottom = omega arith; left = left; right = omega arith }))

@@ -1,5 +1,5 @@
 -- Numbers for the places of a shape, and how they are stepped.
-use Rattle.tabled_grid.proofs.Common.{[], ◌%◌, ◌*◌, ◌++◌, ◌+◌, ◌-◌, ◌<◌, ◌||◌, ◌∙◌, ◌∷◌, ◌≡◌, ◌≤◌, ◌⊎◌, Bool, List, Position, Stepped, Steps, ap, ap₂, arith, cases_Bool, common_steps, cond, false, get_or, get_or_append_left, inl, inr, length, map, map-append, or_right, place, range_with_len, refl, replicate, replicate-append-replicate, same_place, set, set-append_left, set-append_right, subst, suc, sym, table, true, zero, ℕ}
+use Rattle.tabled_grid.proofs.Common.{[], ◌%◌, ◌*◌, ◌++◌, ◌+◌, ◌-◌, ◌<◌, ◌||◌, ◌∙◌, ◌∷◌, ◌≡◌, ◌≤◌, ◌⊎◌, Bool, List, Position, Size, Stepped, Steps, ap, ap₂, area, arith, cases_Bool, common_steps, cond, false, get_or, get_or_append_left, inl, inr, length, map, map-append, or_right, place, range_with_len, refl, replicate, replicate-append-replicate, same_place, set, set-append_left, set-append_right, subst, suc, sym, table, true, zero, ℕ}
 use Rattle.tabled_grid.proofs.Places.{block-is, places}
 use Rattle.tabled_grid.proofs.SpanMaps.{same_place-apart, same_place-self}
 
@@ -80,46 +80,46 @@ get-rows f a (suc n) m (suc i) j k d h l e =
     let split : k ≡ length (row_of f a 0 m) + (i * m + j) = omega (arith, e, length-row f a 0 m) in
     rw split (get_or-past (row_of f a 0 m) (rows_of f (a + 1) n m) d (i * m + j) ∙ get-rows f (a + 1) n m i j (i * m + j) d (omega arith) l refl ∙ ap (λ r. f (place r j)) (omega arith))
 
-table-is : (f : Position → ℕ) (rows columns : ℕ) → table f rows columns ≡ rows_of f 0 rows columns
-table-is f rows columns = ap (map f) (block-is 0 rows 0 columns rows columns (omega arith) (omega arith)) ∙ rows-are f 0 rows columns
+table-is : (f : Position → ℕ) (size : Size) → table f size ≡ rows_of f 0 size.height size.width
+table-is f size = ap (map f) (block-is 0 size.height 0 size.width size.height size.width (omega arith) (omega arith)) ∙ rows-are f 0 size.height size.width
 
-pub table-agree : (f g : Position → ℕ) (rows columns : ℕ) → ((i j : ℕ) → i < rows → j < columns → f (place i j) ≡ g (place i j)) → table f rows columns ≡ table g rows columns
-table-agree f g rows columns h = table-is f rows columns ∙ rows-agree f g 0 rows columns (λ i j l k u. h i j (omega arith) u) ∙ sym (table-is g rows columns)
+pub table-agree : (f g : Position → ℕ) (size : Size) → ((i j : ℕ) → i < size.height → j < size.width → f (place i j) ≡ g (place i j)) → table f size ≡ table g size
+table-agree f g size h = table-is f size ∙ rows-agree f g 0 size.height size.width (λ i j l k u. h i j (omega arith) u) ∙ sym (table-is g size)
 
-pub get-table : (f : Position → ℕ) (rows columns i j k d : ℕ) → i < rows → j < columns → k ≡ i * columns + j → get_or (table f rows columns) k d ≡ f (place i j)
-get-table f rows columns i j k d h l e = ap (λ xs. get_or xs k d) (table-is f rows columns) ∙ get-rows f 0 rows columns i j k d h l e ∙ ap (λ r. f (place r j)) (omega arith)
+pub get-table : (f : Position → ℕ) (size : Size) (i j k d : ℕ) → i < size.height → j < size.width → k ≡ i * size.width + j → get_or (table f size) k d ≡ f (place i j)
+get-table f size i j k d h l e = ap (λ xs. get_or xs k d) (table-is f size) ∙ get-rows f 0 size.height size.width i j k d h l e ∙ ap (λ r. f (place r j)) (omega arith)
 
-pub set-table : (f g : Position → ℕ) (rows columns i j k x : ℕ) → i < rows → j < columns → k ≡ i * columns + j → g (place i j) ≡ x → ((r c : ℕ) → r < rows → c < columns → ((r ≡ i) × (c ≡ j) → ⊥) → f (place r c) ≡ g (place r c)) → set (table f rows columns) k x ≡ table g rows columns
-set-table f g rows columns i j k x h l e is others =
-    ap (λ xs. set xs k x) (table-is f rows columns)
-    ∙ set-rows f g 0 rows columns i j k x h l e (subst (λ r. g (place r j) ≡ x) (omega arith) is) (λ r c u v w apart. others r c (omega arith) w (λ same. apart (omega (arith, same.0), same.1)))
-    ∙ sym (table-is g rows columns)
+pub set-table : (f g : Position → ℕ) (size : Size) (i j k x : ℕ) → i < size.height → j < size.width → k ≡ i * size.width + j → g (place i j) ≡ x → ((r c : ℕ) → r < size.height → c < size.width → ((r ≡ i) × (c ≡ j) → ⊥) → f (place r c) ≡ g (place r c)) → set (table f size) k x ≡ table g size
+set-table f g size i j k x h l e is others =
+    ap (λ xs. set xs k x) (table-is f size)
+    ∙ set-rows f g 0 size.height size.width i j k x h l e (subst (λ r. g (place r j) ≡ x) (omega arith) is) (λ r c u v w apart. others r c (omega arith) w (λ same. apart (omega (arith, same.0), same.1)))
+    ∙ sym (table-is g size)
 
-pub table-zero : (rows columns count : ℕ) → rows * columns ≡ count → table (λ p. 0) rows columns ≡ replicate count 0
+pub table-zero : (size : Size) → table (λ p. 0) size ≡ replicate (area size) 0
 unfolding row_of rows_of
-table-zero rows columns count e = table-is (λ p. 0) rows columns ∙ zeros 0 rows ∙ ap (λ n. replicate n 0) e
+table-zero size = table-is (λ p. 0) size ∙ zeros 0 size.height
   where
     zero_row : (i c m : ℕ) → row_of (λ p. 0) i c m ≡ replicate m 0
     zero_row i c zero = refl
     zero_row i c (suc m) = ap (λ xs. 0 ∷ xs) (zero_row i (c + 1) m)
 
-    zeros : (a n : ℕ) → rows_of (λ p. 0) a n columns ≡ replicate (n * columns) 0
+    zeros : (a n : ℕ) → rows_of (λ p. 0) a n size.width ≡ replicate (n * size.width) 0
     zeros a zero = grind (arith, common_steps)
-    zeros a (suc n) = ap₂ (λ xs ys. xs ++ ys) (zero_row a 0 columns) (zeros (a + 1) n) ∙ replicate-append-replicate columns (n * columns) 0 ∙ (let all : columns + n * columns ≡ suc n * columns = omega arith in ap (λ k. replicate k 0) all)
+    zeros a (suc n) = ap₂ (λ xs ys. xs ++ ys) (zero_row a 0 size.width) (zeros (a + 1) n) ∙ replicate-append-replicate size.width (n * size.width) 0 ∙ (let all : size.width + n * size.width ≡ suc n * size.width = omega arith in ap (λ k. replicate k 0) all)
 
 -- a list that is stepped nowhere
-pub steps_nowhere : (xs : List ℕ) (test : Position → Bool) (step limit rows columns : ℕ) → ((i j : ℕ) → i < rows → j < columns → test (place i j) ≡ false) → Steps xs xs test step limit rows columns
-steps_nowhere xs test step limit rows columns none = record { is = λ f g stepped is. is ∙ table-agree f g rows columns (λ i j h k. sym (stepped.others i j h k (none i j h k))) }
+pub steps_nowhere : (xs : List ℕ) (test : Position → Bool) (step limit : ℕ) (size : Size) → ((i j : ℕ) → i < size.height → j < size.width → test (place i j) ≡ false) → Steps xs xs test step limit size
+steps_nowhere xs test step limit size none = record { is = λ f g stepped is. is ∙ table-agree f g size (λ i j h k. sym (stepped.others i j h k (none i j h k))) }
 
 -- at the places that pass another test, which says the same inside the shape
-pub steps_same : (xs ys : List ℕ) (test other : Position → Bool) (step limit rows columns : ℕ) → ((i j : ℕ) → i < rows → j < columns → test (place i j) ≡ other (place i j)) → Steps xs ys test step limit rows columns → Steps xs ys other step limit rows columns
-steps_same xs ys test other step limit rows columns same steps = record { is = λ f g stepped is. steps.is f g (record { here = λ i j h k t. stepped.here i j h k (sym (same i j h k) ∙ t); others = λ i j h k t. stepped.others i j h k (sym (same i j h k) ∙ t) }) is }
+pub steps_same : (xs ys : List ℕ) (test other : Position → Bool) (step limit : ℕ) (size : Size) → ((i j : ℕ) → i < size.height → j < size.width → test (place i j) ≡ other (place i j)) → Steps xs ys test step limit size → Steps xs ys other step limit size
+steps_same xs ys test other step limit size same steps = record { is = λ f g stepped is. steps.is f g (record { here = λ i j h k t. stepped.here i j h k (sym (same i j h k) ∙ t); others = λ i j h k t. stepped.others i j h k (sym (same i j h k) ∙ t) }) is }
 
 -- one set of places after another that has none of them
-module _ (first second all : Position → Bool) (step limit rows columns : ℕ)
-    (covers : (i j : ℕ) → i < rows → j < columns → all (place i j) ≡ (first (place i j) || second (place i j)))
-    (apart : (i j : ℕ) → i < rows → j < columns → first (place i j) ≡ true → second (place i j) ≡ true → ⊥)
-    (f g : Position → ℕ) (stepped : Stepped all step limit rows columns f g) where
+module _ (first second all : Position → Bool) (step limit : ℕ) (size : Size)
+    (covers : (i j : ℕ) → i < size.height → j < size.width → all (place i j) ≡ (first (place i j) || second (place i j)))
+    (apart : (i j : ℕ) → i < size.height → j < size.width → first (place i j) ≡ true → second (place i j) ≡ true → ⊥)
+    (f g : Position → ℕ) (stepped : Stepped all step limit size f g) where
   between : Position → ℕ
   between p = cond (second p) (f p) (g p)
 
@@ -127,40 +127,40 @@ module _ (first second all : Position → Bool) (step limit rows columns : ℕ)
   unfolding between
   at i j b e = ap (λ (c : Bool). cond c (f (place i j)) (g (place i j))) e
 
-  step_first : Stepped first step limit rows columns f between
+  step_first : Stepped first step limit size f between
   step_first = record {
     here = λ i j h k t. by_here i j h k t (cases_Bool (second (place i j)));
     others = λ i j h k t. by_others i j h k t (cases_Bool (second (place i j)));
   }
     where
-      by_here : (i j : ℕ) → i < rows → j < columns → first (place i j) ≡ true → (second (place i j) ≡ true) ⊎ (second (place i j) ≡ false) → between (place i j) ≡ (f (place i j) + step) % limit
+      by_here : (i j : ℕ) → i < size.height → j < size.width → first (place i j) ≡ true → (second (place i j) ≡ true) ⊎ (second (place i j) ≡ false) → between (place i j) ≡ (f (place i j) + step) % limit
       by_here i j h k t (inl s) = absurd (apart i j h k t s)
       by_here i j h k t (inr n) = at i j false n ∙ stepped.here i j h k (covers i j h k ∙ ap₂ (λ a b. a || b) t n)
 
-      by_others : (i j : ℕ) → i < rows → j < columns → first (place i j) ≡ false → (second (place i j) ≡ true) ⊎ (second (place i j) ≡ false) → between (place i j) ≡ f (place i j)
+      by_others : (i j : ℕ) → i < size.height → j < size.width → first (place i j) ≡ false → (second (place i j) ≡ true) ⊎ (second (place i j) ≡ false) → between (place i j) ≡ f (place i j)
       by_others i j h k t (inl s) = at i j true s
       by_others i j h k t (inr n) = at i j false n ∙ stepped.others i j h k (covers i j h k ∙ ap₂ (λ a b. a || b) t n)
 
-  step_second : Stepped second step limit rows columns between g
+  step_second : Stepped second step limit size between g
   step_second = record {
     here = λ i j h k t. stepped.here i j h k (covers i j h k ∙ or_right (first (place i j)) (second (place i j)) t) ∙ ap (λ n. (n + step) % limit) (sym (at i j true t));
     others = λ i j h k t. sym (at i j false t);
   }
 
-pub steps_joined : (xs ys zs : List ℕ) (first second all : Position → Bool) (step limit rows columns : ℕ) →
-    ((i j : ℕ) → i < rows → j < columns → all (place i j) ≡ (first (place i j) || second (place i j))) →
-    ((i j : ℕ) → i < rows → j < columns → first (place i j) ≡ true → second (place i j) ≡ true → ⊥) →
-    Steps xs ys first step limit rows columns → Steps ys zs second step limit rows columns → Steps xs zs all step limit rows columns
-steps_joined xs ys zs first second all step limit rows columns covers apart one two = record {
+pub steps_joined : (xs ys zs : List ℕ) (first second all : Position → Bool) (step limit : ℕ) (size : Size) →
+    ((i j : ℕ) → i < size.height → j < size.width → all (place i j) ≡ (first (place i j) || second (place i j))) →
+    ((i j : ℕ) → i < size.height → j < size.width → first (place i j) ≡ true → second (place i j) ≡ true → ⊥) →
+    Steps xs ys first step limit size → Steps ys zs second step limit size → Steps xs zs all step limit size
+steps_joined xs ys zs first second all step limit size covers apart one two = record {
   is = λ f g stepped is.
-      two.is (between first second all step limit rows columns covers apart f g stepped) g (step_second first second all step limit rows columns covers apart f g stepped)
-      (one.is f (between first second all step limit rows columns covers apart f g stepped) (step_first first second all step limit rows columns covers apart f g stepped) is);
+      two.is (between first second all step limit size covers apart f g stepped) g (step_second first second all step limit size covers apart f g stepped)
+      (one.is f (between first second all step limit size covers apart f g stepped) (step_first first second all step limit size covers apart f g stepped) is);
 }
 
 -- one place
-pub steps_one : (xs : List ℕ) (i j k d x step limit rows columns : ℕ) → i < rows → j < columns → k ≡ i * columns + j → x ≡ (get_or xs k d + step) % limit → Steps xs (set xs k x) (same_place (place i j)) step limit rows columns
-steps_one xs i j k d x step limit rows columns h l e value = record {
+pub steps_one : (xs : List ℕ) (i j k d x step limit : ℕ) (size : Size) → i < size.height → j < size.width → k ≡ i * size.width + j → x ≡ (get_or xs k d + step) % limit → Steps xs (set xs k x) (same_place (place i j)) step limit size
+steps_one xs i j k d x step limit size h l e value = record {
   is = λ f g stepped is.
-      let here : g (place i j) ≡ x = stepped.here i j h l (same_place-self (place i j)) ∙ ap (λ n. (n + step) % limit) (sym (ap (λ ys. get_or ys k d) is ∙ get-table f rows columns i j k d h l e)) ∙ sym value in
-      ap (λ ys. set ys k x) is ∙ set-table f g rows columns i j k x h l e here (λ r c u v apart. sym (stepped.others r c u v (same_place-apart (place i j) (place r c) (λ same. apart (ap (λ (p : Position). p.row) (sym same), ap (λ (p : Position). p.col) (sym same))))));
+      let here : g (place i j) ≡ x = stepped.here i j h l (same_place-self (place i j)) ∙ ap (λ n. (n + step) % limit) (sym (ap (λ ys. get_or ys k d) is ∙ get-table f size i j k d h l e)) ∙ sym value in
+      ap (λ ys. set ys k x) is ∙ set-table f g size i j k x h l e here (λ r c u v apart. sym (stepped.others r c u v (same_place-apart (place i j) (place r c) (λ same. apart (ap (λ (p : Position). p.row) (sym same), ap (λ (p : Position). p.col) (sym same))))));
 }

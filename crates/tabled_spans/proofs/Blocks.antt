@@ -1,7 +1,19 @@
 -- A block of the cells that an entity names, and the neighbours among them.
-use Rattle.tabled_spans.proofs.Common.{◌-◌, ◌≡◌, ◌<◌, ◌+◌, ◌≤◌, AreInBlock, Axis, Columns, Entity, Grid, In, IsBand, IsInside, IsNamed, List, MergesRuns, NamesNoNeighbours, Position, Rectangle, Rows, SpanMap, across, ap₂, arith, further, in_line, inr, line_of, lines_in, map_grid, place, rectangle, refl, resized, Size, ℕ}
+use Rattle.tabled_spans.proofs.Common.{◌-◌, ◌≡◌, ◌↔◌, ◌<◌, ◌+◌, ◌≤◌, AreInBlock, Axis, Columns, Entity, Grid, In, IsBand, IsInside, IsNamed, List, MergesRuns, NamesNoNeighbours, Position, Rectangle, Rows, SpanMap, across, ap₂, arith, further, in_line, inr, line_of, lines_in, map_grid, names, place, rectangle, refl, resized, true, Size, ℕ}
 use Rattle.tabled_grid.specs.declared.config.entity.Entity.TheVariants.{Global}
 use Rattle.tabled_spans.specs.Lines.{line_at}
+
+-- where an entity names the cells of a block among those of a shape, it does so in each table of that shape
+pub named_block : (e : Entity) (g : Grid (List ℕ)) (rows columns : ℕ) (block : Rectangle) → g.rows ≡ rows → g.columns ≡ columns → ((p : Position) → In block p ↔ ((names e p ≡ true) × (p.row < rows) × (p.col < columns))) → AreInBlock e g block
+named_block e g rows columns block high wide is p = (
+  (λ named. (is p).1 (named.named, omega (arith, named.inside.row, high), omega (arith, named.inside.col, wide))),
+  (λ here. let at = (is p).0 here in record { inside = record { row = omega (arith, at.1, high); col = omega (arith, at.2, wide) }; named = at.0 }),
+)
+
+-- the places of a block's line from one of its places on
+pub in_along : (axis : Axis) (block : Rectangle) (p : Position) (k : ℕ) → In block p → line_of axis p ≤ k → k < line_of axis block.first + lines_in axis block.size → In block (in_line axis p k)
+in_along Rows block p k at from to = record { top = omega (arith, at.top); bottom = to; left = at.left; right = at.right }
+in_along Columns block p k at from to = record { top = at.top; bottom = at.bottom; left = omega (arith, at.left); right = to }
 
 -- the place before one of a block that isn't in its first line is in the block, too
 pub back_in : (axis : Axis) (block : Rectangle) (p : Position) → In block p → (line_of axis p ≡ line_of axis block.first → ⊥) → (further axis 1 (in_line axis p (line_of axis p - 1)) ≡ p) × In block (in_line axis p (line_of axis p - 1))

@@ -1,17 +1,12 @@
--- How far spans reach in a table.
-use Rattle.tabled_spans.proofs.Common.{[], ◌<◌, ◌∷◌, ◌≡◌, AllByRecursion, Axis, Entity, InReach, IsReach, List, Position, block, cond, count_of, false, filter, inside, inside-within, names, refl, true, ℕ}
+-- How far spans reach from the cells of a block.
+use Rattle.tabled_spans.proofs.Common.{◌+◌, ◌-◌, ◌<◌, ◌≤◌, Axis, Columns, In, Position, Rectangle, Rows, across, arith, count_of, line_of, lines_in, ℕ}
 
--- each place that an entity names is in its reach, and named
-module _ (axis : Axis) (size : ℕ) (e : Entity) (rows columns : ℕ) (reach : ℕ × ℕ) (is : IsReach axis size e rows columns reach) where
-  abbrev pub Named : Position → Type 0
-  Named p = (names e p ≡ true) × InReach axis size (count_of axis rows columns) reach.0 reach.1 p
+-- a block that ends in a table ends in its rows and in its columns
+pub block_ends : (axis : Axis) (block : Rectangle) (rows columns : ℕ) → block.first.row + block.size.height ≤ rows → block.first.col + block.size.width ≤ columns → line_of axis block.first + lines_in axis block.size ≤ count_of axis rows columns
+block_ends Rows block rows columns bottom right = bottom
+block_ends Columns block rows columns bottom right = right
 
-  kept : (ps : List Position) → AllByRecursion (λ (p : Position). (p.row < rows) × (p.col < columns)) (filter (names e) ps) → AllByRecursion Named (filter (names e) ps)
-  kept [] all = tt
-  kept (p ∷ ps) all = elim (names e p) as (λ b. names e p ≡ b → AllByRecursion (λ (q : Position). (q.row < rows) × (q.col < columns)) (cond b (p ∷ filter (names e) ps) (filter (names e) ps)) → AllByRecursion Named (cond b (p ∷ filter (names e) ps) (filter (names e) ps))) [
-    | true ↦ λ t here. ((t, is.each p t here.0.0 here.0.1), kept ps here.1)
-    | false ↦ λ f here. kept ps here
-  ] refl all
-
-  pub inside-reach : AllByRecursion Named (inside e rows columns)
-  inside-reach = kept (block 0 rows 0 columns) (inside-within e rows columns)
+-- the line across of a place in a block, counted from the block's first one
+pub line_within : (axis : Axis) (block : Rectangle) (p : Position) → In block p → (line_of (across axis) block.first ≤ line_of (across axis) p) × (line_of (across axis) p - line_of (across axis) block.first < lines_in (across axis) block.size)
+line_within Rows block p at = (at.left, omega (arith, at.left, at.right))
+line_within Columns block p at = (at.top, omega (arith, at.top, at.bottom))

@@ -1,5 +1,5 @@
 -- Sizes that are set at rising places, and what spans make of them.
-use Rattle.tabled_spans.proofs.Common.{[], ◌++◌, ◌+◌, ◌-◌, ◌<◌, ◌∙◌, ◌∷◌, ◌≡◌, ◌≢◌, ◌≤◌, AreSorted, Axis, Below, Bool, Columns, Less, List, Position, Rectangle, Rows, Size, SpanMap, across, ap, append_assoc, are_visible, arith, both, cases_Bool, change_at, column_span-is, common_steps, count_of, cover_in, false, grown_each, halves, if◌then◌else◌, inl, inr, is_eq, less, line_of, min, position_cmp, positions_total, rectangle, refl, resized, row_span-is, size_at, size_at-with_size-other, sized, subst, sym, tied_itself, true, with_size, with_sizes, with_span, with_visible_span, ℕ}
+use Rattle.tabled_spans.proofs.Common.{[], ◌++◌, ◌+◌, ◌-◌, ◌<◌, ◌∙◌, ◌∷◌, ◌≡◌, ◌≢◌, ◌≤◌, AreSorted, Axis, Below, Bool, Columns, Less, List, Position, Rectangle, Rows, Size, SpanMap, ap, append_assoc, are_visible, arith, both, cases_Bool, change_at, column_span-is, common_steps, count_of, false, grown_each, halves, if◌then◌else◌, inl, inr, is_eq, less, line_of, min, position_cmp, positions_total, rectangle, refl, resized, row_span-is, size_at, size_at-with_size-other, sized, subst, sym, tied_itself, true, with_size, with_sizes, with_span, with_visible_span, ℕ}
 
 pub with_sizes-append : (m : SpanMap) (xs ys : List Rectangle) → with_sizes m (xs ++ ys) ≡ with_sizes (with_sizes m xs) ys
 with_sizes-append m [] ys = refl
@@ -50,19 +50,10 @@ sorted-change axis m p many xs rest up = subst AreSorted (sym (append_assoc xs (
 pub changes-more : (cfg : SpanMap) (xs new : List Rectangle) (p : Position) (rest : List Position) (axis : Axis) (size n many : ℕ) → many ≡ min size (n - line_of axis p) → 1 ≤ many → new ≡ xs ++ change_at axis (with_sizes cfg xs) p many → grown_each axis size n (with_sizes cfg new) rest ≡ grown_each axis size n (with_sizes cfg xs) (p ∷ rest)
 changes-more cfg xs new p rest axis size n many is some added = grind (arith, common_steps, with_sizes-append, change-is)
 
-pub line_within : (axis : Axis) (first p : Position) (rows columns : ℕ) → first.row ≤ p.row → p.row < first.row + rows → first.col ≤ p.col → p.col < first.col + columns → (line_of (across axis) first ≤ line_of (across axis) p) × (line_of (across axis) p - line_of (across axis) first < count_of (across axis) rows columns)
-line_within Rows first p rows columns top bottom left right = (left, omega arith)
-line_within Columns first p rows columns top bottom left right = (top, omega arith)
-
--- n rows or columns from a block's first one on end where the reach does
-pub reach_end : (axis : Axis) (first : Position) (bottom right n : ℕ) → first.row ≤ bottom → first.col ≤ right → n ≤ count_of axis bottom right → n ≤ line_of axis first + count_of axis (bottom - first.row) (right - first.col)
-reach_end Rows first bottom right n top left end = omega arith
-reach_end Columns first bottom right n top left end = omega arith
-
 pub index_within : (axis : Axis) (p : Position) (rows columns : ℕ) → p.row < rows → p.col < columns → line_of axis p < count_of axis rows columns
 index_within Rows p rows columns row col = row
 index_within Columns p rows columns row col = col
 
--- what the cover map follows
-pub cover-change : (cfg : SpanMap) (xs new : List Rectangle) (axis : Axis) (p : Position) (many : ℕ) (first : Position) (rows columns : ℕ) → new ≡ xs ++ change_at axis (with_sizes cfg xs) p many → cover_in (with_sizes (with_sizes cfg xs) (change_at axis (with_sizes cfg xs) p many)) first rows columns ≡ cover_in (with_sizes cfg new) first rows columns
-cover-change cfg xs new axis p many first rows columns added = ap (λ (m : SpanMap). cover_in m first rows columns) (sym (ap (with_sizes cfg) added ∙ with_sizes-append cfg xs (change_at axis (with_sizes cfg xs) p many)))
+-- the sizes set so far, with the change at a place
+pub changed-sizes : (cfg : SpanMap) (xs new : List Rectangle) (axis : Axis) (p : Position) (many : ℕ) → new ≡ xs ++ change_at axis (with_sizes cfg xs) p many → with_sizes (with_sizes cfg xs) (change_at axis (with_sizes cfg xs) p many) ≡ with_sizes cfg new
+changed-sizes cfg xs new axis p many added = sym (ap (with_sizes cfg) added ∙ with_sizes-append cfg xs (change_at axis (with_sizes cfg xs) p many))

@@ -1,13 +1,11 @@
 -- The steps in which runs are found, row by row.
-use Rattle.std.specs.Prelude.{◌≡◌, ◌↔◌, ◌+◌, ◌-◌, ◌<◌, ◌≤◌, ◌⊎◌, ℕ, List, None, Option, Some, drop, if◌then◌else◌, length, nat_lt, slice_index}
+use Rattle.std.specs.Prelude.{◌≡◌, ◌↔◌, ◌+◌, ◌-◌, ◌<◌, ◌≤◌, ◌⊎◌, ℕ, List, Some, drop, length, slice_index}
 use Rattle.std.specs.FinMap.{find}
 use Rattle.std.specs.List.{AllByRecursion}
-use Rattle.tabled_grid.specs.Covers.{Cover}
 use Rattle.tabled_grid.specs.Grid.{Grid}
 use Rattle.tabled_grid.specs.Midway.{In}
-use Rattle.tabled_grid.specs.Spans.{AreSorted, SpanMap, pairs, position_cmp, rectangle, rectangles, sized}
+use Rattle.tabled_grid.specs.Spans.{AreSorted, SpanMap, pairs, position_cmp, rectangles}
 use Rattle.tabled_grid.specs.declared.config.entity.Entity.{Entity}
-use Rattle.tabled_grid.specs.declared.config.entity.Entity.TheVariants.{Global, Column, Row, Cell}
 use Rattle.tabled_grid.specs.declared.config.position.Position.{Position}
 use Rattle.tabled_grid.specs.declared.config.rectangle.Rectangle.{Rectangle}
 use Rattle.tabled_grid.specs.declared.records.axis.Axis.{Axis}
@@ -45,29 +43,6 @@ pub record IsTail (axis : Axis) (e : Entity) (g : Grid (List ℕ)) (m : SpanMap)
   pub some : 1 ≤ many
   pub joins : (k : ℕ) → k + 1 < many → Joins axis e g m (further axis k p)
   pub ends : Joins axis e g m (further axis (many - 1) p) → ⊥
-
--- the row that an entity names, if it is one alone
-abbrev pub row_named : Entity → Option ℕ
-row_named Global = None
-row_named (Column _) = None
-row_named (Row i) = Some i
-row_named (Cell i _) = Some i
-
--- the column that an entity names, if it is one alone
-abbrev pub column_named : Entity → Option ℕ
-column_named Global = None
-column_named (Column j) = Some j
-column_named (Row _) = None
-column_named (Cell _ j) = Some j
-
--- the first of n lines that are named by an index, or without one, and how many are
-abbrev pub lines_named : Option ℕ → ℕ → ℕ × ℕ
-lines_named None count = (0, count)
-lines_named (Some line) count = if nat_lt line count then (line, 1) else (count, 0)
-
--- the block of cells that a cover speaks of
-abbrev pub block_in : Cover → Rectangle
-block_in cover = rectangle cover.first (sized cover.rows cover.columns)
 
 -- the cells of the table that an entity names are those of a block
 abbrev pub AreInBlock : Entity → Grid (List ℕ) → Rectangle → Type 0

@@ -2,10 +2,11 @@
 
 ghost use Rattle.std.specs.Prelude.{◌≡◌};
 ghost use Rattle.tabled_grid.specs.Entity.{place};
+ghost use Rattle.tabled_grid.specs.Spans.{rectangle, sized};
 
 use std::alloc::{AllocError, Global};
 use std::test::Fail;
-use tabled_grid::config::{CoverMap, Position, Size, SpannedConfig};
+use tabled_grid::config::{CoverMap, Position, Rectangle, Size, SpannedConfig};
 use tabled_testing::merged;
 
 /// Whether a cell is visible, and whether a rectangle covers it from the left, and from above.
@@ -60,9 +61,19 @@ fn keeps_which_cells_are_hidden(rt: HostRuntime) -> Result<(), Fail> {
 fn refuses_a_large_block_past_the_largest_number(rt: HostRuntime) -> Result<(), Fail> {
     let spans = merged(rt.alloc(), "18446744073709551613.18446744073709551613:2x2")?;
     let last = Position::new(usize::MAX - 1, usize::MAX - 1);
-    let before = Position::new(usize::MAX - 9, usize::MAX - 9);
-    assert!(rt; CoverMap::of_block(rt.alloc(), &spans, last, 1, 1)?.is_hidden(last));
-    assert!(rt; CoverMap::of_block(rt.alloc(), &spans, before, 3, 3).is_err());
+    let cell = Rectangle {
+        first: last,
+        size: Size::CELL,
+    };
+    let nine_cells = Rectangle {
+        first: Position::new(usize::MAX - 9, usize::MAX - 9),
+        size: Size {
+            height: 3,
+            width: 3,
+        },
+    };
+    assert!(rt; CoverMap::of_block(rt.alloc(), &spans, cell)?.is_hidden(last));
+    assert!(rt; CoverMap::of_block(rt.alloc(), &spans, nine_cells).is_err());
     assert!(rt; CoverMap::new(rt.alloc(), &spans, usize::MAX, 2).is_err());
     Ok(())
 }
@@ -77,9 +88,7 @@ fn follow(
     cover: &mut CoverMap,
     anchor: Anchor,
 ) -> Result<(), AllocError>
-    ensures first { cover.new.first ≡ cover.old.first }
-    ensures rows { cover.new.rows ≡ cover.old.rows }
-    ensures columns { cover.new.columns ≡ cover.old.columns }
+    ensures block { cover.new.block ≡ cover.old.block }
 {
     let (row, col, height, width) = anchor;
     let pos = Position::new(row, col);
@@ -97,9 +106,7 @@ fn follow(
 
 /// Whether a map of 3 x 3 cells hides those that aren't visible.
 fn hides(cover: &CoverMap, spans: &SpannedConfig) -> bool
-    requires first { cover.now.first ≡ place 0 0 }
-    requires rows { cover.now.rows ≡ 3 }
-    requires columns { cover.now.columns ≡ 3 }
+    requires block { cover.now.block ≡ rectangle (place 0 0) (sized 3 3) }
 {
     for row in 0..3 {
         for col in 0..3 {

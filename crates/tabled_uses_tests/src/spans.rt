@@ -253,7 +253,12 @@ fn make(alloc: Global, spans: &mut SpannedConfig, call: Call) -> Result<(), Allo
             Ok(())
         }
         Call::CoverBlock => {
-            CoverMap::of_block(alloc, spans, Position::new(1, 0), 4, 4)?;
+            let size = Size {
+                height: 4,
+                width: 4,
+            };
+            let first = Position::new(1, 0);
+            CoverMap::of_block(alloc, spans, Rectangle { first, size })?;
             Ok(())
         }
     }

@@ -1,10 +1,12 @@
 //! Which cells of a table are hidden, for quick answers.
 
-ghost use Rattle.std.specs.Prelude.{◌≡◌, ◌+◌, ◌*◌, ◌<◌, ◌≤◌, ◌^◌, ℕ, IfOk, IsOk, take};
+ghost use Rattle.std.specs.Prelude.{◌≡◌, ◌+◌, ◌*◌, ◌<◌, ◌≤◌, ◌^◌, IfOk, IsOk, take};
 ghost use Rattle.tabled_grid.specs.CellCounts.{CountsBlock, IsFew, IsMany, counts_of};
-ghost use Rattle.tabled_grid.specs.Covers.{beyond, cover_in, cover_of, hiders_in, hiders_of, table};
+ghost use Rattle.tabled_grid.specs.Covers.{IsCoverOf, area, hider_counts};
+ghost use Rattle.tabled_grid.specs.Entity.{place};
 ghost use Rattle.tabled_grid.specs.Hidden.{is_hidden};
-ghost use Rattle.tabled_grid.specs.Spans.{AreSorted, SpanMap, size_at, with_size};
+ghost use Rattle.tabled_grid.specs.Midway.{In};
+ghost use Rattle.tabled_grid.specs.Spans.{AreSorted, SpanMap, rectangle, rectangles, size_at, sized, with_size};
 
 use crate::config::hiders::{count_each, follow};
 use crate::config::position::Position;
@@ -29,26 +31,24 @@ enum CellCounts {
 /// For each cell of a block, how many other anchors' rectangles hold it. So it answers at once what
 /// `SpannedConfig::is_cell_visible` looks through all anchors for.
 ///
-/// A contract sees it as what a finite map from anchors to sizes covers of the block (`cover_in`).
-/// Rectangles are cut at the block, and anchors may stand outside of it.
+/// A contract sees it as its block and these numbers, row by row. They are those of a finite map from anchors
+/// to sizes (`IsCoverOf`), whose anchors may stand outside of the block.
 #[derive(Drop)]
 pub struct CoverMap {
     counts: CellCounts,
-    first: Position,
-    rows: usize,
-    columns: usize,
+    block: Rectangle,
 }
 
 impl Model for CoverMap {
-    ghost use Rattle.std.specs.Prelude.{◌*◌, ◌<◌, ◌^◌};
+    ghost use Rattle.std.specs.Prelude.{◌<◌, ◌^◌};
     ghost use Rattle.tabled_grid.specs.CellCounts.{CountsBlock, counts_of};
-    ghost use Rattle.tabled_grid.specs.Covers.{Cover};
+    ghost use Rattle.tabled_grid.specs.Covers.{Cover, area};
 
     ghost Value = { Cover };
 
-    ghost view = { λ a. record { first = a.first; rows = a.rows; columns = a.columns; hiders = counts_of (a.rows * a.columns) a.counts } };
+    ghost view = { λ a. record { block = a.block; hiders = counts_of (area a.block.size) a.counts } };
 
-    ghost invariant = { λ a. record { count : a.rows * a.columns < 2 ^ 64; counts : CountsBlock a.counts a.first a.rows a.columns } };
+    ghost invariant = { λ a. record { count : area a.block.size < 2 ^ 64; counts : CountsBlock a.counts a.block } };
 }
 
 impl CoverMap {
@@ -63,50 +63,51 @@ impl CoverMap {
         rows: usize,
         columns: usize,
     ) -> Result<Self, AllocError>
-        ensures cover { IfOk result (λ cover. cover ≡ cover_of cfg.now rows columns) }
+        ensures block { IfOk result (λ cover. cover.block ≡ rectangle (place 0 0) (sized rows columns)) }
+        ensures cover { IfOk result (IsCoverOf cfg.now) }
         ensures promised { rows * columns ≤ 8 → IsOk result }
     {
-        CoverMap::of_block(alloc, cfg, Position::new(0, 0), rows, columns)
+        let size = Size {
+            height: rows,
+            width: columns,
+        };
+        let first = Position { row: 0, col: 0 };
+        CoverMap::of_block(alloc, cfg, Rectangle { first, size })
     }
 
-    /// What the merged cells of `cfg` cover of a block (`rows x columns`), from its first cell on. It
-    /// takes memory for the block alone, and none for up to eight cells.
+    /// What the merged cells of `cfg` cover of a block. It takes memory for the block alone, and none for up to
+    /// eight cells.
     ///
     /// A row or a column past `usize::MAX` is a growth refused, and so is, of a larger block, a number past it of
     /// cells of the table up to the block's last one.
     pub fn of_block(
         alloc: Global,
         cfg: &SpannedConfig,
-        first: Position,
-        rows: usize,
-        columns: usize,
+        block: Rectangle,
     ) -> Result<Self, AllocError>
-        ensures cover { IfOk result (λ cover. cover ≡ cover_in cfg.now first rows columns) }
-        ensures promised { rows * columns ≤ 8 → first.row + rows < 2 ^ 64 → first.col + columns < 2 ^ 64 → IsOk result }
+        ensures block { IfOk result (λ cover. cover.block ≡ block) }
+        ensures cover { IfOk result (IsCoverOf cfg.now) }
+        ensures promised { area block.size ≤ 8 → block.first.row + block.size.height < 2 ^ 64 → block.first.col + block.size.width < 2 ^ 64 → IsOk result }
     {
-        if first.row.checked_add(rows).is_none() || first.col.checked_add(columns).is_none() {
+        let Rectangle { first, size } = block;
+        let bottom = first.row.checked_add(size.height);
+        let right = first.col.checked_add(size.width);
+        if bottom.is_none() || right.is_none() {
             return Err(AllocError);
         }
-        let counts = CellCounts::of(alloc, cfg.anchors(), first, rows, columns)?;
-        Ok(CoverMap {
-            counts,
-            first,
-            rows,
-            columns,
-        })
+        let counts = CellCounts::of(alloc, cfg.anchors(), block)?;
+        Ok(CoverMap { counts, block })
     }
 
     /// Says whether another anchor's rectangle holds a cell of the block.
     pub fn is_hidden(&self, pos: Position) -> bool
-        requires top { self.now.first.row ≤ pos.row }
-        requires bottom { pos.row < self.now.first.row + self.now.rows }
-        requires left { self.now.first.col ≤ pos.col }
-        requires right { pos.col < self.now.first.col + self.now.columns }
-        ensures hidden { (m : SpanMap) (first : Position) (rows columns : ℕ) → self.now ≡ cover_in m first rows columns → result ≡ is_hidden m pos }
+        requires inside { In self.now.block pos }
+        ensures hidden { (m : SpanMap) → IsCoverOf m self.now → result ≡ is_hidden m pos }
     {
-        let row = pos.row - self.first.row;
-        let col = pos.col - self.first.col;
-        let k = row * self.columns + col;
+        let Rectangle { first, size } = self.block;
+        let row = pos.row - first.row;
+        let col = pos.col - first.col;
+        let k = row * size.width + col;
         match &self.counts {
             CellCounts::Few(counts) => counts[k] > 0,
             CellCounts::Many(counts) => counts[k] > 0,
@@ -118,86 +119,64 @@ impl CoverMap {
     ///
     /// What is left is promised where `old` is the size that the map had.
     pub fn replace(&mut self, pos: Position, old: Size, new: Size)
-        ensures first { self.new.first ≡ self.old.first }
-        ensures rows { self.new.rows ≡ self.old.rows }
-        ensures columns { self.new.columns ≡ self.old.columns }
-        ensures cover { (m : SpanMap) (first : Position) (rows columns : ℕ) → self.old ≡ cover_in m first rows columns → size_at m pos ≡ old → self.new ≡ cover_in (with_size m pos new) first rows columns }
+        ensures block { self.new.block ≡ self.old.block }
+        ensures cover { (m : SpanMap) → IsCoverOf m self.old → size_at m pos ≡ old → IsCoverOf (with_size m pos new) self.new }
     {
-        let (first, rows, columns) = (self.first, self.rows, self.columns);
-        self.counts.follow(first, rows, columns, pos, old, new);
+        let block = self.block;
+        self.counts.follow(block, pos, old, new);
     }
 }
 
 impl CellCounts {
     /// Counts the anchors that hide each cell of a block.
-    fn of(
-        alloc: Global,
-        anchors: &[Rectangle],
-        first: Position,
-        rows: usize,
-        columns: usize,
-    ) -> Result<Self, AllocError>
+    fn of(alloc: Global, anchors: &[Rectangle], block: Rectangle) -> Result<Self, AllocError>
         requires sorted { AreSorted anchors.now }
-        requires bottom { first.row + rows < 2 ^ 64 }
-        requires right { first.col + columns < 2 ^ 64 }
-        ensures count { IfOk result (λ _. rows * columns < 2 ^ 64) }
-        ensures counts { IfOk result (λ counts. CountsBlock counts first rows columns) }
-        ensures counted { IfOk result (λ counts. counts_of (rows * columns) counts ≡ table (λ p. hiders_in anchors.now (beyond first p)) rows columns) }
-        ensures promised { rows * columns ≤ 8 → IsOk result }
+        requires bottom { block.first.row + block.size.height < 2 ^ 64 }
+        requires right { block.first.col + block.size.width < 2 ^ 64 }
+        ensures count { IfOk result (λ _. area block.size < 2 ^ 64) }
+        ensures counts { IfOk result (λ counts. CountsBlock counts block) }
+        ensures counted { IfOk result (λ counts. counts_of (area block.size) counts ≡ hider_counts anchors.now block) }
+        ensures promised { area block.size ≤ 8 → IsOk result }
     {
-        if let Some(count) = rows.checked_mul(columns) {
+        if let Some(count) = block.size.height.checked_mul(block.size.width) {
             if count <= FEW {
-                return Ok(CellCounts::Few(count_few(anchors, first, rows, columns)));
+                return Ok(CellCounts::Few(count_few(anchors, block)));
             }
         }
-        Ok(CellCounts::Many(count_many(alloc, anchors, first, rows, columns)?))
+        Ok(CellCounts::Many(count_many(alloc, anchors, block)?))
     }
 
     /// Follows a map whose size at a place becomes another.
-    fn follow(
-        &mut self,
-        first: Position,
-        rows: usize,
-        columns: usize,
-        pos: Position,
-        old: Size,
-        new: Size,
-    )
-        requires count { rows * columns < 2 ^ 64 }
-        requires counts { CountsBlock self.old first rows columns }
-        ensures counts { CountsBlock self.new first rows columns }
-        ensures map { (m : SpanMap) → size_at m pos ≡ old → counts_of (rows * columns) self.old ≡ table (λ p. hiders_of m (beyond first p)) rows columns → counts_of (rows * columns) self.new ≡ table (λ p. hiders_of (with_size m pos new) (beyond first p)) rows columns }
+    fn follow(&mut self, block: Rectangle, pos: Position, old: Size, new: Size)
+        requires count { area block.size < 2 ^ 64 }
+        requires counts { CountsBlock self.old block }
+        ensures counts { CountsBlock self.new block }
+        ensures map { (m : SpanMap) → size_at m pos ≡ old → counts_of (area block.size) self.old ≡ hider_counts (rectangles m) block → counts_of (area block.size) self.new ≡ hider_counts (rectangles (with_size m pos new)) block }
     {
         match self {
             CellCounts::Few(counts) => {
                 let mut few = *counts;
-                follow(
-                    &mut few[..rows * columns],
-                    first,
-                    rows,
-                    columns,
-                    pos,
-                    old,
-                    new,
-                );
+                let count = block.size.height * block.size.width;
+                follow(&mut few[..count], block, pos, old, new);
                 *counts = few;
             }
-            CellCounts::Many(counts) => follow(counts, first, rows, columns, pos, old, new),
+            CellCounts::Many(counts) => follow(counts, block, pos, old, new),
         }
     }
 }
 
 /// Counts the anchors that hide each cell of a small block.
-fn count_few(anchors: &[Rectangle], first: Position, rows: usize, columns: usize) -> [u128; FEW]
+fn count_few(anchors: &[Rectangle], block: Rectangle) -> [u128; FEW]
     requires sorted { AreSorted anchors.now }
-    requires few { rows * columns ≤ 8 }
-    requires bottom { first.row + rows < 2 ^ 64 }
-    requires right { first.col + columns < 2 ^ 64 }
-    ensures is_few { IsFew result first rows columns }
-    ensures counted { take (rows * columns) result ≡ table (λ p. hiders_in anchors.now (beyond first p)) rows columns }
+    requires few { area block.size ≤ 8 }
+    requires bottom { block.first.row + block.size.height < 2 ^ 64 }
+    requires right { block.first.col + block.size.width < 2 ^ 64 }
+    ensures is_few { IsFew result block }
+    ensures counted { take (area block.size) result ≡ hider_counts anchors.now block }
 {
     let mut counts = [0; FEW];
-    count_each(&mut counts[..rows * columns], anchors, first, rows, columns);
+    let count = block.size.height * block.size.width;
+    count_each(&mut counts[..count], anchors, block);
     counts
 }
 
@@ -206,20 +185,19 @@ fn count_few(anchors: &[Rectangle], first: Position, rows: usize, columns: usize
 fn count_many(
     alloc: Global,
     anchors: &[Rectangle],
-    first: Position,
-    rows: usize,
-    columns: usize,
+    block: Rectangle,
 ) -> Result<Vec<usize>, AllocError>
     requires sorted { AreSorted anchors.now }
-    requires bottom { first.row + rows < 2 ^ 64 }
-    requires right { first.col + columns < 2 ^ 64 }
-    ensures is_many { IfOk result (λ counts. IsMany counts.items first rows columns) }
-    ensures counted { IfOk result (λ counts. counts.items ≡ table (λ p. hiders_in anchors.now (beyond first p)) rows columns) }
+    requires bottom { block.first.row + block.size.height < 2 ^ 64 }
+    requires right { block.first.col + block.size.width < 2 ^ 64 }
+    ensures is_many { IfOk result (λ counts. IsMany counts.items block) }
+    ensures counted { IfOk result (λ counts. counts.items ≡ hider_counts anchors.now block) }
 {
-    let Some(_cells) = (first.row + rows).checked_mul(first.col + columns) else {
+    let Rectangle { first, size } = block;
+    let Some(_cells) = (first.row + size.height).checked_mul(first.col + size.width) else {
         return Err(AllocError);
     };
-    let mut counts = vec![in alloc; 0; rows * columns]?;
-    count_each(&mut counts, anchors, first, rows, columns);
+    let mut counts = vec![in alloc; 0; size.height * size.width]?;
+    count_each(&mut counts, anchors, block);
     Ok(counts)
 }

@@ -1,10 +1,14 @@
 //! What names cells of a table: all of them, a column, a row or one cell.
 
-ghost use Rattle.std.specs.Prelude.{◌≡◌};
+ghost use Rattle.std.specs.Prelude.{◌≡◌, ◌↔◌, ◌+◌, ◌<◌, ◌≤◌, true};
 ghost use Rattle.std.specs.Iterator.{YieldsFirst, item_count};
-ghost use Rattle.tabled_grid.specs.Entity.{inside};
+ghost use Rattle.tabled_grid.specs.Entity.{column_named, inside, lines_named, names, places_in, row_named};
+ghost use Rattle.tabled_grid.specs.Midway.{In};
+ghost use Rattle.tabled_grid.specs.declared.config.position.Position.{Position};
 
 use crate::config::position::Position;
+use crate::config::rectangle::Rectangle;
+use crate::config::size::Size;
 use std::marker::Model;
 
 /// The cells of a table that are named together.
@@ -23,6 +27,39 @@ pub enum Entity {
 }
 
 impl Entity {
+    /// The cells of a table (`rows x columns`) that are named, as a rectangle. It has no cells where none is named.
+    ///
+    /// Of this project.
+    pub fn block(self, rows: usize, columns: usize) -> Rectangle
+        ensures cells { inside self rows columns ≡ places_in result }
+        ensures named { (p : Position) → In result p ↔ ((names self p ≡ true) × (p.row < rows) × (p.col < columns)) }
+        ensures bottom { result.first.row + result.size.height ≤ rows }
+        ensures right { result.first.col + result.size.width ≤ columns }
+    {
+        let (row, col) = self.indexes();
+        let (top, height) = lines_named(row, rows);
+        let (left, width) = lines_named(col, columns);
+        Rectangle {
+            first: Position {
+                row: top,
+                col: left,
+            },
+            size: Size { height, width },
+        }
+    }
+
+    /// The row and the column that are named, each if it is one alone.
+    fn indexes(self) -> (Option<usize>, Option<usize>)
+        ensures { result ≡ (row_named self, column_named self) }
+    {
+        match self {
+            Entity::Global => (None, None),
+            Entity::Column(col) => (None, Some(col)),
+            Entity::Row(row) => (Some(row), None),
+            Entity::Cell(row, col) => (Some(row), Some(col)),
+        }
+    }
+
     /// Goes over the named cells of a table of `count_rows x count_columns`, row by row. Those that
     /// it names outside the table are left out.
     ///
@@ -30,19 +67,18 @@ impl Entity {
     pub fn iter(&self, count_rows: usize, count_columns: usize) -> EntityIterator
         ensures { result ≡ inside self.now count_rows count_columns }
     {
-        match *self {
-            Entity::Global => EntityIterator::block(0, count_rows, 0, count_columns),
-            Entity::Column(col) if col < count_columns => {
-                EntityIterator::block(0, count_rows, col, col + 1)
-            }
-            Entity::Row(row) if row < count_rows => {
-                EntityIterator::block(row, row + 1, 0, count_columns)
-            }
-            Entity::Cell(row, col) if row < count_rows && col < count_columns => {
-                EntityIterator::block(row, row + 1, col, col + 1)
-            }
-            _ => EntityIterator::block(0, 0, 0, 0),
-        }
+        EntityIterator::of(self.block(count_rows, count_columns))
+    }
+}
+
+/// The first of `count` lines that are named by an index, or without one, and how many are.
+fn lines_named(index: Option<usize>, count: usize) -> (usize, usize)
+    ensures { result ≡ lines_named index count }
+{
+    match index {
+        None => (0, count),
+        Some(line) if line < count => (line, 1),
+        Some(_) => (count, 0),
     }
 }
 
@@ -92,19 +128,24 @@ impl Model for EntityIterator {
 }
 
 impl EntityIterator {
-    ghost use Rattle.std.specs.Prelude.{◌≡◌};
-    ghost use Rattle.tabled_grid.specs.Entity.{block};
+    ghost use Rattle.std.specs.Prelude.{◌≡◌, ◌+◌, ◌<◌, ◌^◌};
+    ghost use Rattle.tabled_grid.specs.Entity.{places_in};
 
-    /// The places of a block, whose ends are excluded.
-    fn block(row: usize, end_row: usize, first_col: usize, end_col: usize) -> Self
-        ensures { result ≡ block row end_row first_col end_col }
+    /// The places of a block.
+    fn of(block: Rectangle) -> Self
+        requires bottom { block.first.row + block.size.height < 2 ^ 64 }
+        requires right { block.first.col + block.size.width < 2 ^ 64 }
+        ensures { result ≡ places_in block }
     {
+        let Rectangle { first, size } = block;
+        // A block without columns has no row to begin with.
+        let height = if size.width > 0 { size.height } else { 0 };
         EntityIterator {
-            row,
-            end_row: if first_col < end_col { end_row } else { row },
-            col: first_col,
-            first_col,
-            end_col,
+            row: first.row,
+            end_row: first.row + height,
+            col: first.col,
+            first_col: first.col,
+            end_col: first.col + size.width,
         }
     }
 }

@@ -13,11 +13,11 @@ mod each;
 mod lines;
 mod runs;
 
-use crate::merge::block::{block_of, has_neighbours};
+use crate::merge::block::has_neighbours;
 use crate::merge::each::merge_each;
 use crate::merge::runs::runs_of;
 use std::alloc::{AllocError, Global};
-use tabled_grid::config::{Entity, Rectangle, SpannedConfig};
+use tabled_grid::config::{Entity, SpannedConfig};
 use tabled_grid::records::{Axis, CellText, ExactRecords, PeekableRecords, Records};
 use tabled_options::{CellOption, TableOption};
 
@@ -236,8 +236,8 @@ where
     ensures err { OnErr result (cfg.new ≡ cfg.old) }
     ensures promised { NamesNoNeighbours axis entity (R.grid records.now) → IsOk result }
 {
-    let Rectangle { size, .. } = block_of(entity, records.count_rows(), records.count_columns());
-    if !has_neighbours(axis, size) {
+    let block = entity.block(records.count_rows(), records.count_columns());
+    if !has_neighbours(axis, block.size) {
         return Ok(());
     }
     let sizes = runs_of(alloc, records, cfg, axis, entity)?;

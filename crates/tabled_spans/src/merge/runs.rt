@@ -3,16 +3,15 @@
 ghost use Rattle.std.specs.Prelude.{◌≡◌, ◌↔◌, ◌+◌, ◌<◌, ◌≤◌, ◌^◌, IfOk, IsNone, IsTrue, length, true};
 ghost use Rattle.std.specs.Option.{IfSome};
 ghost use Rattle.tabled_grid.specs.Axis.{line_of};
-ghost use Rattle.tabled_grid.specs.Covers.{cover_in};
+ghost use Rattle.tabled_grid.specs.Covers.{IsCoverOf};
 ghost use Rattle.tabled_grid.specs.Grid.{IsInside, map_grid};
 ghost use Rattle.tabled_grid.specs.Midway.{In};
 ghost use Rattle.tabled_grid.specs.declared.config.entity.Entity.{Entity};
 ghost use Rattle.tabled_grid.specs.declared.config.position.Position.{Position};
-ghost use Rattle.tabled_spans.specs.RunSteps.{AreTails, IsBand, RunAt, RunsFrom, RunsOf, StandBelow, block_in};
+ghost use Rattle.tabled_spans.specs.RunSteps.{AreTails, IsBand, RunAt, RunsFrom, RunsOf, StandBelow};
 ghost use Rattle.tabled_spans.specs.Runs.{IsNamed, Joins, further, is_free};
 
 use crate::merge::anchored::{is_anchor, up_to_row};
-use crate::merge::block::block_of;
 use std::alloc::{AllocError, Global};
 use tabled_grid::config::{CoverMap, Entity, Position, Rectangle, Size, SpannedConfig};
 use tabled_grid::records::{Axis, CellText, ExactRecords, PeekableRecords, Records};
@@ -31,7 +30,7 @@ where
     requires { R.is_well_formed records.now }
     ensures { IfOk result (λ sizes. RunsOf axis entity (map_grid R.Cell.text_of (R.grid records.now)) cfg.now sizes.items) }
 {
-    let block = block_of(entity, records.count_rows(), records.count_columns());
+    let block = entity.block(records.count_rows(), records.count_columns());
     runs_in_block(alloc, records, cfg, axis, block)
 }
 
@@ -54,8 +53,7 @@ where
     requires right { block.first.col + block.size.width < 2 ^ 64 }
     ensures { IfOk result (λ sizes. (e : Entity) → IsBand axis e (map_grid R.Cell.text_of (R.grid records.now)) block → RunsFrom axis e (map_grid R.Cell.text_of (R.grid records.now)) cfg.now block 0 0 sizes.items) }
 {
-    let Rectangle { first, size } = block;
-    let cover = CoverMap::of_block(alloc, cfg, first, size.height, size.width)?;
+    let cover = CoverMap::of_block(alloc, cfg, block)?;
     runs(alloc, records, cfg, &cover, axis, block)
 }
 
@@ -77,7 +75,8 @@ where
     requires block { (e : Entity) × IsBand axis e (map_grid R.Cell.text_of (R.grid records.now)) block }
     requires bottom { block.first.row + block.size.height < 2 ^ 64 }
     requires right { block.first.col + block.size.width < 2 ^ 64 }
-    requires cover { cover.now ≡ cover_in cfg.now block.first block.size.height block.size.width }
+    requires covered { cover.now.block ≡ block }
+    requires cover { IsCoverOf cfg.now cover.now }
     ensures { IfOk result (λ sizes. (e : Entity) → IsBand axis e (map_grid R.Cell.text_of (R.grid records.now)) block → RunsFrom axis e (map_grid R.Cell.text_of (R.grid records.now)) cfg.now block 0 0 sizes.items) }
 {
     let Rectangle { first, size } = block;
@@ -118,7 +117,8 @@ where
     R::Cell: CellText,
     requires well { R.is_well_formed records.now }
     requires block { (e : Entity) × IsBand axis e (map_grid R.Cell.text_of (R.grid records.now)) block }
-    requires cover { cover.now ≡ cover_in cfg.now block.first block.size.height block.size.width }
+    requires covered { cover.now.block ≡ block }
+    requires cover { IsCoverOf cfg.now cover.now }
     requires inside { In block pos }
     requires ahead { StandBelow cfg.now pos.row ahead }
     requires width { length lengths.old ≡ block.size.width }
@@ -159,9 +159,9 @@ where
     R: Records + ExactRecords + PeekableRecords,
     R::Cell: CellText,
     requires well { R.is_well_formed records.now }
-    requires cover { cover.now ≡ cover_in cfg.now cover.now.first cover.now.rows cover.now.columns }
-    requires here { In (block_in cover.now) pos }
-    requires there { In (block_in cover.now) next }
+    requires cover { IsCoverOf cfg.now cover.now }
+    requires here { In cover.now.block pos }
+    requires there { In cover.now.block next }
     requires inside { IsInside (R.grid records.now) next }
     requires next { further axis 1 pos ≡ next }
     requires ahead { StandBelow cfg.now next.row ahead }
@@ -175,8 +175,8 @@ where
 
 /// Says whether a cell of a covered block is visible and no anchor.
 fn is_free(cfg: &SpannedConfig, cover: &CoverMap, ahead: usize, pos: Position) -> bool
-    requires here { In (block_in cover.now) pos }
-    requires cover { cover.now ≡ cover_in cfg.now cover.now.first cover.now.rows cover.now.columns }
+    requires here { In cover.now.block pos }
+    requires cover { IsCoverOf cfg.now cover.now }
     requires ahead { StandBelow cfg.now pos.row ahead }
     ensures { result ≡ is_free cfg.now pos }
 {

@@ -1,13 +1,14 @@
 //! Spans over visible cells, from a place on.
 
-ghost use Rattle.std.specs.Prelude.{◌≡◌, ◌+◌, ◌<◌, ◌≤◌, ◌++◌, ◌^◌, ℕ, pos, true, IfOk, IsOk, OnErr, OnOk};
+ghost use Rattle.std.specs.Prelude.{◌≡◌, ◌+◌, ◌<◌, ◌≤◌, ◌++◌, ◌^◌, pos, IfOk, IsOk, OnErr, OnOk};
 ghost use Rattle.std.specs.List.{AllByRecursion};
-ghost use Rattle.tabled_grid.specs.Covers.{cover_in};
-ghost use Rattle.tabled_grid.specs.Entity.{names};
+ghost use Rattle.tabled_grid.specs.Axis.{line_of, lines_in};
+ghost use Rattle.tabled_grid.specs.Covers.{IsCoverOf};
+ghost use Rattle.tabled_grid.specs.Midway.{In};
 ghost use Rattle.tabled_grid.specs.Spans.{AreSorted, IsSizeAt, SpanMap, with_sizes};
-ghost use Rattle.tabled_grid.specs.Axis.{across, count_of, line_of, resized};
+ghost use Rattle.tabled_grid.specs.declared.config.position.Position.{Position};
 ghost use Rattle.tabled_spans.specs.Spanned.{SpanTakesNoMemory, are_visible, grown, grown_on, with_visible_span};
-ghost use Rattle.tabled_spans.specs.SpanSteps.{ForEachCovering, IsReach, change_at, cover_changed_at};
+ghost use Rattle.tabled_spans.specs.SpanSteps.{ForEachCovered, InReach, change_at};
 
 use std::alloc::{AllocError, Global};
 use tabled_grid::config::{CoverMap, Entity, Position, Rectangle, Size, SpannedConfig};
@@ -18,13 +19,10 @@ use tabled_grid::records::Axis;
 /// A hidden one that it meets is kept as the line's hint, and is asked first for the next place. So it
 /// goes over no cell of a line twice.
 fn is_free(cover: &CoverMap, axis: Axis, pos: Position, many: usize, hint: &mut usize) -> bool
-    requires top { cover.now.first.row ≤ pos.row }
-    requires bottom { pos.row < cover.now.first.row + cover.now.rows }
-    requires left { cover.now.first.col ≤ pos.col }
-    requires right { pos.col < cover.now.first.col + cover.now.columns }
-    requires within { line_of axis pos + many ≤ line_of axis cover.now.first + count_of axis cover.now.rows cover.now.columns }
+    requires inside { In cover.now.block pos }
+    requires within { line_of axis pos + many ≤ line_of axis cover.now.block.first + lines_in axis cover.now.block.size }
     requires end { line_of axis pos + many < 2 ^ 64 }
-    ensures { (m : SpanMap) (first : Position) (rows columns : ℕ) → cover.now ≡ cover_in m first rows columns → result ≡ are_visible axis m pos many }
+    ensures { (m : SpanMap) → IsCoverOf m cover.now → result ≡ are_visible axis m pos many }
 {
     let first = axis.line_of(pos);
     let end = first + many;
@@ -53,16 +51,14 @@ fn grow_at(
     many: usize,
     hint: &mut usize,
 ) -> Result<(), AllocError>
-    requires top { cover.old.first.row ≤ pos.row }
-    requires bottom { pos.row < cover.old.first.row + cover.old.rows }
-    requires left { cover.old.first.col ≤ pos.col }
-    requires right { pos.col < cover.old.first.col + cover.old.columns }
+    requires inside { In cover.old.block pos }
     requires some { 1 ≤ many }
-    requires within { line_of axis pos + many ≤ line_of axis cover.old.first + count_of axis cover.old.rows cover.old.columns }
+    requires within { line_of axis pos + many ≤ line_of axis cover.old.block.first + lines_in axis cover.old.block.size }
     requires end { line_of axis pos + many < 2 ^ 64 }
-    ensures ok { ForEachCovering cover.old cfg.now pos (λ m _ _ _. OnOk result (changes.new.items ≡ changes.old.items ++ change_at axis m pos many)) }
+    ensures ok { ForEachCovered cover.old cfg.now pos (λ m. OnOk result (changes.new.items ≡ changes.old.items ++ change_at axis m pos many)) }
     ensures full { AllByRecursion IsSizeAt changes.old.items → OnOk result (AllByRecursion IsSizeAt changes.new.items) }
-    ensures cover { ForEachCovering cover.old cfg.now pos (λ m first rows columns. OnOk result (cover.new ≡ cover_changed_at axis m pos many first rows columns)) }
+    ensures block { cover.new.block ≡ cover.old.block }
+    ensures cover { ForEachCovered cover.old cfg.now pos (λ m. OnOk result (IsCoverOf (with_sizes m (change_at axis m pos many)) cover.new)) }
 {
     if !is_free(cover, axis, pos, many, hint) {
         return Ok(());
@@ -77,35 +73,16 @@ fn grow_at(
     Ok(())
 }
 
-/// The first cell of those that an entity names, in r rows and c columns, or the end of these.
-fn first_named(entity: Entity, rows: usize, columns: usize) -> Position
-    ensures row { (p : Position) → names entity p ≡ true → result.row ≤ p.row }
-    ensures col { (p : Position) → names entity p ≡ true → result.col ≤ p.col }
-    ensures rows { result.row ≤ rows }
-    ensures columns { result.col ≤ columns }
+/// The cells that spans take from those of a block on, cut at the last of n rows or columns.
+fn reach(axis: Axis, size: usize, block: Rectangle, count: usize) -> Rectangle
+    requires { line_of axis block.first + lines_in axis block.size ≤ count }
+    ensures { (p : Position) → In block p → InReach axis size count result p }
 {
-    match entity {
-        Entity::Global => Position::new(0, 0),
-        Entity::Row(row) => Position::new(row.min(rows), 0),
-        Entity::Column(col) => Position::new(0, col.min(columns)),
-        Entity::Cell(row, col) => Position::new(row.min(rows), col.min(columns)),
-    }
-}
-
-/// r rows and c columns, from the table's first on, hold all cells that spans take from the places on
-/// that an entity names in a table.
-fn reach(axis: Axis, size: usize, entity: Entity, rows: usize, columns: usize) -> (usize, usize)
-    ensures { IsReach axis size entity rows columns result }
-{
-    let (bottom, right) = match entity {
-        Entity::Global => (rows, columns),
-        Entity::Row(row) => (row.saturating_add(1), columns),
-        Entity::Column(col) => (rows, col.saturating_add(1)),
-        Entity::Cell(row, col) => (row.saturating_add(1), col.saturating_add(1)),
-    };
-    match axis {
-        Axis::Rows => (bottom.saturating_add(size).min(rows), right.min(columns)),
-        Axis::Columns => (bottom.min(rows), right.saturating_add(size).min(columns)),
+    let left = count - axis.line_of(block.first);
+    let many = axis.lines_in(block.size).saturating_add(size).min(left);
+    Rectangle {
+        first: block.first,
+        size: axis.resized(block.size, many),
     }
 }
 
@@ -125,19 +102,17 @@ fn changes(
     ensures sizes { IfOk result (λ changes. with_sizes cfg.now changes.items ≡ grown_on axis size entity rows columns cfg.now) }
 {
     let count = axis.count_of(rows, columns);
-    let (bottom, right) = reach(axis, size, entity, rows, columns);
-    let first = first_named(entity, bottom, right);
-    let (height, width) = (bottom - first.row, right - first.col);
-    let mut cover = CoverMap::of_block(alloc, cfg, first, height, width)?;
+    let block = reach(axis, size, entity.block(rows, columns), count);
+    let mut cover = CoverMap::of_block(alloc, cfg, block)?;
     // A hint for each line that spans go along: a column for spans of rows, a row for those of columns.
     let across = axis.across();
-    let mut hints = vec![in alloc; 0; across.count_of(height, width)]?;
+    let mut hints = vec![in alloc; 0; across.lines_in(block.size)]?;
     let mut changes = Vec::new(alloc);
     for pos in entity.iter(rows, columns) {
         let index = axis.line_of(pos);
         let many = size.min(count - index);
         let line = across.line_of(pos);
-        let hint = &mut hints[line - across.line_of(first)];
+        let hint = &mut hints[line - across.line_of(block.first)];
         grow_at(alloc, &mut cover, &mut changes, cfg, axis, pos, many, hint)?;
     }
     Ok(changes)
@@ -159,8 +134,11 @@ fn grow_one(
     ensures err { OnErr result (cfg.new ≡ cfg.old) }
     ensures promised { many ≤ 1 → IsOk result }
 {
-    let block = axis.resized(Size::CELL, many);
-    let cover = CoverMap::of_block(alloc, cfg, pos, block.height, block.width)?;
+    let block = Rectangle {
+        first: pos,
+        size: axis.resized(Size::CELL, many),
+    };
+    let cover = CoverMap::of_block(alloc, cfg, block)?;
     let mut hint = axis.line_of(pos);
     if !is_free(&cover, axis, pos, many, &mut hint) {
         return Ok(());

@@ -1,7 +1,6 @@
 use Rattle.std.proofs.lemmas.Result.{IfOk-weaker}
-use Rattle.tabled_draw.proofs.Common.{ap₂, map_grid, ◌∙◌}
+use Rattle.tabled_draw.proofs.Common.{map_grid, ◌∙◌}
 use Rattle.tabled_draw.proofs.Singly.{kept-apart}
-use Rattle.tabled_grid.specs.Covers.{cover_of}
 use Rattle.tabled_draw.proofs.markdown_texts.texts_apart.Goals as goal
 
 pub returns-clause-texts : goal.returns-clause-texts
@@ -10,4 +9,4 @@ returns-clause-texts g c =
     let kept = c.in_ok-spans.spans in
     let rows = c.count_rows-rows.ensures.rows in
     let columns = c.count_columns-columns.ensures.columns in
-    IfOk-weaker c.all_texts.result _ _ (λ texts h. h kept (c.in_ok-cover.ensures.cover ∙ ap₂ (cover_of kept) rows columns) ∙ kept-apart t c.args.cfg.now kept _ _ rows columns c.in_ok-spans.ensures.fitting) c.all_texts.ensures.texts
+    IfOk-weaker c.all_texts.result _ _ (λ texts h. h kept c.in_ok-cover.ensures.cover ∙ kept-apart t c.args.cfg.now kept _ _ rows columns c.in_ok-spans.ensures.fitting) c.all_texts.ensures.texts

@@ -1,5 +1,5 @@
-use Rattle.tabled_spans.proofs.Common.{◌-◌, ◌≡◌, Position, SpanMap, cover_in, is_visible, line_of, list_all, stretch, ℕ}
+use Rattle.tabled_spans.proofs.Common.{◌-◌, ◌≡◌, IsCoverOf, SpanMap, is_visible, line_of, list_all, stretch}
 use Rattle.tabled_spans.proofs.span.grow.is_free.Given as goal
 
 abbrev pub invariant-loop-k : goal.invariant-loop-k
-invariant-loop-k l = (m : SpanMap) (first : Position) (rows columns : ℕ) → l.cover ≡ cover_in m first rows columns → list_all (is_visible m) (stretch l.axis l.pos (line_of l.axis l.pos) l.many) ≡ list_all (is_visible m) (stretch l.axis l.pos l.k (l.end - l.k))
+invariant-loop-k l = (m : SpanMap) → IsCoverOf m l.cover → list_all (is_visible m) (stretch l.axis l.pos (line_of l.axis l.pos) l.many) ≡ list_all (is_visible m) (stretch l.axis l.pos l.k (l.end - l.k))
