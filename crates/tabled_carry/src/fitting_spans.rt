@@ -101,9 +101,9 @@ fn carried_fitting<M: MovesRectangles>(
     requires { Fits cfg rows columns }
     ensures image { result ≡ image (M.places moves.now) cfg }
 {
-    let mut anchors = cfg.into_anchors();
+    let mut anchors = cfg.into_rectangles();
     carry(moves, &mut anchors, rows, columns);
-    SpannedConfig::from_anchors(anchors)
+    SpannedConfig::from_rectangles(anchors)
 }
 
 /// Puts the rectangles that those of a list are carried to in their stead, row by row.

@@ -223,7 +223,7 @@ where
         }
     }
     clear(&mut band.here);
-    let is_unmerged = spans.anchors().is_empty();
+    let is_unmerged = spans.rectangles().is_empty();
     write_border(
         pen,
         sheet,

@@ -33,7 +33,7 @@ where
     ensures long { OnOk result (length sizes.new.items ≡ count_along axis (R.grid records.now)) }
     ensures grown { OnOk result (sizes.new.items ≡ grown axis style.now (map_grid R.Cell.text_of (R.grid records.now)) (rectangles spans.now) sizes.old.items) }
 {
-    let rectangles = put_in_order(alloc, spans.anchors(), axis)?;
+    let rectangles = put_in_order(alloc, spans.rectangles(), axis)?;
     let order = rectangles.as_slice();
     let lines = lines_around(axis, style);
     for k in 0..order.len() {

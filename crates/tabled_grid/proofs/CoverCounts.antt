@@ -20,7 +20,7 @@ hidden-in m cover p d is at =
     let i = p.row - first.row in
     let j = p.col - first.col in
     let here : beyond first (place i j) ≡ p = ap₂ place (omega (arith, at.top)) (omega (arith, at.left)) in
-    let value : get_or cover.hiders (number_in cover.block p) d ≡ hiders_of m p = ap (λ xs. get_or xs (i * size.width + j) d) is ∙ get-table (λ q. hiders_of m (beyond first q)) size i j (i * size.width + j) d (omega (arith, at.top, at.bottom)) (omega (arith, at.left, at.right)) refl ∙ ap (hiders_of m) here in
+    let value : get_or cover.hiders (number_in cover.block p) d ≡ hiders_of m p = ap (λ xs. get_or xs (i * size.width + j) d) is.counts ∙ get-table (λ q. hiders_of m (beyond first q)) size i j (i * size.width + j) d (omega (arith, at.top, at.bottom)) (omega (arith, at.left, at.right)) refl ∙ ap (hiders_of m) here in
     ap (nat_lt 0) value ∙ sym (hidden-counts m p)
 
 -- eight zeros, cut

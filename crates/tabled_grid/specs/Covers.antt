@@ -42,8 +42,8 @@ pub record Cover : Type 0 where
   pub hiders : List ℕ
 
 -- the numbers say how many anchors of a map hide each cell
-abbrev pub IsCoverOf : SpanMap → Cover → Type 0
-IsCoverOf m cover = cover.hiders ≡ hider_counts (rectangles m) cover.block
+pub record IsCoverOf (m : SpanMap) (cover : Cover) : Type 0 where
+  pub counts : cover.hiders ≡ hider_counts (rectangles m) cover.block
 
 -- the cells of a table up to the last one of a block have a number each below a limit
 pub record IsNumbered (limit : ℕ) (cells : Rectangle) : Type 0 where

@@ -80,7 +80,7 @@ impl SpanLines {
         }
         let mut sorted = Vec::with_capacity(alloc, anchors.len())?;
         if fit(alloc, &mut sorted, anchors, rows, columns)? {
-            return Ok(SpannedConfig::from_anchors(sorted));
+            return Ok(SpannedConfig::from_rectangles(sorted));
         }
         let misfit = first_misfit(alloc, sorted, anchors, rows, columns)?;
         Err(ParseError::Faulty {

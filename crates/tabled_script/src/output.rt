@@ -122,7 +122,7 @@ fn write_spans<W: Write>(writer: &mut W, held: &mut Held, cfg: &SpannedConfig) -
     ensures sends { OnOk result (Sends (W.contents writer.old) held.old (W.contents writer.new) held.new (flat_map span_line (rectangles cfg.now))) }
     ensures less { OnOk result (length held.new < PART) }
 {
-    for rectangle in cfg.anchors() {
+    for rectangle in cfg.rectangles() {
         let Rectangle { first, size } = *rectangle;
         let numbers = [first.row, first.col, size.height, size.width];
         hold_numbers(held, "span", &numbers);

@@ -129,7 +129,7 @@ where
     let rows = records.count_rows();
     let columns = records.count_columns();
     // Without merged cells no list of the lines that are left is made.
-    if cfg.anchors().is_empty() {
+    if cfg.rectangles().is_empty() {
         lines::remove(axis, records, &gone);
         return Ok(());
     }

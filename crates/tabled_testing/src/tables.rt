@@ -157,7 +157,7 @@ pub fn push_merged(
     words: &mut String,
     cfg: &SpannedConfig,
 ) -> Result<(), AllocError> {
-    for Rectangle { first, size } in cfg.anchors().iter() {
+    for Rectangle { first, size } in cfg.rectangles().iter() {
         let (row, col) = (first.row, first.col);
         let (height, width) = (size.height, size.width);
         let rectangle = format!(in alloc; "{row}.{col}:{height}x{width}")?;

@@ -167,7 +167,7 @@ where
 pub fn lists_rectangles(cfg: SpannedConfig) -> Vec<Rectangle>
     ensures { result.items ≡ rectangles cfg }
 {
-    cfg.into_anchors()
+    cfg.into_rectangles()
 }
 
 /// Calls the laws of what is carried along.

@@ -316,6 +316,6 @@ fn rectangles_tell_where_they_lie(rt: HostRuntime) -> Result<(), Fail> {
     grows_by_one(alloc, &mut cfg, Axis::Columns, pos)?;
     assert!(rt; cfg.size(pos) == size);
     comes_apart(&mut cfg, alloc, pos)?;
-    assert!(rt; cfg.anchors().is_empty());
+    assert!(rt; cfg.rectangles().is_empty());
     Ok(())
 }

@@ -95,7 +95,7 @@ impl CoverMap {
         if bottom.is_none() || right.is_none() {
             return Err(AllocError);
         }
-        let counts = CellCounts::of(alloc, cfg.anchors(), block)?;
+        let counts = CellCounts::of(alloc, cfg.rectangles(), block)?;
         Ok(CoverMap { counts, block })
     }
 

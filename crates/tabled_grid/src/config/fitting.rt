@@ -17,7 +17,7 @@ impl SpannedConfig {
     pub fn fits(&self, rows: usize, columns: usize) -> bool
         ensures fits { IsTrue result ↔ Fits self.now rows columns }
     {
-        anchors::fit(self.anchors(), rows, columns)
+        anchors::fit(self.rectangles(), rows, columns)
     }
 
     /// A map of those rectangles alone that lie inside a table (`rows x columns`) and share no cell with
@@ -32,8 +32,8 @@ impl SpannedConfig {
     ) -> Result<SpannedConfig, AllocError>
         ensures fitting { IfOk result (λ fitting. fitting ≡ keep_fitting rows columns self.now) }
     {
-        let kept = fitting(alloc, self.anchors(), rows, columns)?;
-        Ok(SpannedConfig::from_anchors(kept))
+        let kept = fitting(alloc, self.rectangles(), rows, columns)?;
+        Ok(SpannedConfig::from_rectangles(kept))
     }
 
     /// Takes away, at once, all rectangles that don't lie inside a table (`rows x columns`) or share a cell

@@ -48,12 +48,7 @@ pub(super) fn follow<N: Count>(
 }
 
 /// Steps the number of each cell of a block that an anchor hides, round the limit.
-pub(super) fn step_each<N: Count>(
-    hiders: &mut [N],
-    block: Rectangle,
-    anchor: Rectangle,
-    step: N,
-)
+pub(super) fn step_each<N: Count>(hiders: &mut [N], block: Rectangle, anchor: Rectangle, step: N)
     requires size { length hiders.old ≡ area block.size }
     requires fits { IsNumbered N.limit block }
     ensures size { length hiders.new ≡ area block.size }
@@ -62,8 +57,14 @@ pub(super) fn step_each<N: Count>(
     let Rectangle { first, size } = block;
     let at = anchor.first;
     let top = at.row.saturating_sub(first.row);
-    let bottom = at.row.saturating_add(anchor.size.height).saturating_sub(first.row);
-    let right = at.col.saturating_add(anchor.size.width).saturating_sub(first.col);
+    let bottom = at
+        .row
+        .saturating_add(anchor.size.height)
+        .saturating_sub(first.row);
+    let right = at
+        .col
+        .saturating_add(anchor.size.width)
+        .saturating_sub(first.col);
     for i in top..bottom.min(size.height) {
         let left = if first.row + i == at.row {
             at.col.saturating_add(1)

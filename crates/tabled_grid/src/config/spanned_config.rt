@@ -54,9 +54,9 @@ impl SpannedConfig {
     ///
     /// Of this project.
     #[doc(hidden)]
-    pub fn from_anchors(anchors: Vec<Rectangle>) -> Self
+    pub fn from_rectangles(anchors: Vec<Rectangle>) -> Self
         requires { AreAnchors anchors.items }
-        ensures anchors { result ≡ map_of anchors.items }
+        ensures rectangles { result ≡ map_of anchors.items }
     {
         SpannedConfig { anchors }
     }
@@ -176,8 +176,8 @@ impl SpannedConfig {
     /// All rectangles, row by row.
     ///
     /// Of this project.
-    pub fn anchors(&self) -> &[Rectangle]
-        ensures anchors { result.now ≡ rectangles self.now }
+    pub fn rectangles(&self) -> &[Rectangle]
+        ensures rectangles { result.now ≡ rectangles self.now }
     {
         &self.anchors
     }
@@ -186,8 +186,8 @@ impl SpannedConfig {
     ///
     /// Of this project.
     #[doc(hidden)]
-    pub fn into_anchors(self) -> Vec<Rectangle>
-        ensures anchors { result.items ≡ rectangles self }
+    pub fn into_rectangles(self) -> Vec<Rectangle>
+        ensures rectangles { result.items ≡ rectangles self }
     {
         let SpannedConfig { anchors } = self;
         anchors

@@ -29,6 +29,7 @@ mod records;
 mod records_mut;
 mod refusing;
 mod resizable;
+mod shape;
 mod target;
 pub mod vec_records;
 
@@ -45,5 +46,7 @@ pub use records::Records;
 pub use records_mut::RecordsMut;
 pub use refusing::Refusing;
 pub use resizable::Resizable;
+#[doc(hidden)]
+pub use shape::shape_of;
 pub use target::{Target, TargetColumn, TargetRow};
 pub use vec_records::{Text, VecRecords};

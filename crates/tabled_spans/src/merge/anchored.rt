@@ -11,7 +11,7 @@ pub(super) fn up_to_row(cfg: &SpannedConfig, row: usize, many: usize) -> usize
     requires { StandBelow cfg.now row many }
     ensures { StandBelow cfg.now row result }
 {
-    let anchors = cfg.anchors();
+    let anchors = cfg.rectangles();
     let mut many = many;
     while many > 0 && anchors[many - 1].first.row > row {
         many -= 1;
@@ -26,7 +26,7 @@ pub(super) fn is_anchor(cfg: &SpannedConfig, many: usize, pos: Position) -> bool
     requires { StandBelow cfg.now pos.row many }
     ensures { result ≡ not (is_cell (size_at cfg.now pos)) }
 {
-    let anchors = cfg.anchors();
+    let anchors = cfg.rectangles();
     if many == 0 || anchors[many - 1].first.row < pos.row {
         return false;
     }

@@ -82,7 +82,7 @@ where
     let Rectangle { first, size } = block;
     let mut sizes = Vec::new(alloc);
     let mut lengths = vec![in alloc; 1; size.width]?;
-    let mut ahead = cfg.anchors().len();
+    let mut ahead = cfg.rectangles().len();
     for i in (first.row..first.row + size.height).rev() {
         ahead = up_to_row(cfg, i, ahead);
         for j in (first.col..first.col + size.width).rev() {

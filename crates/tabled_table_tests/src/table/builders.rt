@@ -193,7 +193,7 @@ fn builds_tables(rt: HostRuntime) -> Result<(), Fail> {
     let alloc = rt.alloc();
     let table = languages(alloc)?;
     assert_eq!(rt; table.shape(), (2, 3));
-    assert!(rt; table.get_config().anchors().is_empty());
+    assert!(rt; table.get_config().rectangles().is_empty());
     for &(col, first, second) in &[
         (0, "C", "Go"),
         (1, "Dennis Ritchie", "Rob Pike"),

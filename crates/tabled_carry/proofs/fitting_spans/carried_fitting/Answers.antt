@@ -2,14 +2,14 @@ use Rattle.tabled_carry.proofs.Common.{◌∙◌, ◌≡◌, Fits, SpanMap, ap, 
 use Rattle.tabled_carry.proofs.fitting_spans.carried_fitting.Goals as goal
 
 pub carry-requires-clause-anchors : goal.carry-requires-clause-anchors
-carry-requires-clause-anchors g c = rw c.into_anchors-anchors.ensures.anchors (rectangles_anchors c.args.cfg)
+carry-requires-clause-anchors g c = rw c.into_rectangles-anchors.ensures.rectangles (rectangles_anchors c.args.cfg)
 
 pub carry-requires-clause-fits : goal.carry-requires-clause-fits
 carry-requires-clause-fits g c =
-    let is : map_of c.into_anchors-anchors.result.items ≡ c.args.cfg = ap map_of c.into_anchors-anchors.ensures.anchors ∙ map_of-rectangles c.args.cfg in
+    let is : map_of c.into_rectangles-anchors.result.items ≡ c.args.cfg = ap map_of c.into_rectangles-anchors.ensures.rectangles ∙ map_of-rectangles c.args.cfg in
     subst (λ (m : SpanMap). Fits m c.args.rows c.args.columns) (sym is) c.requires
 
 pub returns : goal.returns
 returns g c =
-    let is : map_of c.into_anchors-anchors.result.items ≡ c.args.cfg = ap map_of c.into_anchors-anchors.ensures.anchors ∙ map_of-rectangles c.args.cfg in
-    record { image = c.from_anchors.ensures.anchors ∙ c.carry.ensures.image ∙ ap (image (g.M.Moves.places c.args.moves.now)) is }
+    let is : map_of c.into_rectangles-anchors.result.items ≡ c.args.cfg = ap map_of c.into_rectangles-anchors.ensures.rectangles ∙ map_of-rectangles c.args.cfg in
+    record { image = c.from_rectangles.ensures.rectangles ∙ c.carry.ensures.image ∙ ap (image (g.M.Moves.places c.args.moves.now)) is }

@@ -52,7 +52,7 @@ write_border-requires-clause-unmerged g c =
     let under : IsOwnerRow t.rows t.columns (rectangles m) (c.loop-i.i + 1) c.deref-2.result.now = rw c.deref-2.ensures.value (row-outside t.rows t.columns m (c.loop-i.i + 1) c.clear-2.new.row.items (λ j. owner-below t.rows t.columns (rectangles m) (c.loop-i.i + 1) j (omega (arith, i))) (c.clear-2.ensures.long ∙ c.loop-i.invariant.band.here) c.clear-2.ensures.none) in
     λ empty. subst (λ k. AreUnmerged c.args.sheet.now.rows (length c.loop-i.band.rests.items) k c.deref.result.now c.deref-2.result.now) (sym last)
     (unmerged-rows t m c.loop-i.i c.args.sheet.now.rows (length c.loop-i.band.rests.items) c.deref.result.now c.deref-2.result.now c.requires.sheet.rows c.loop-i.invariant.band.long c.requires.sheet.fits c.requires.high c.requires.wide
-    (none-left _ _ _ c.anchors.ensures.anchors c.is_empty-is_unmerged.ensures empty) (omega (arith, i)) over under)
+    (none-left _ _ _ c.rectangles.ensures.rectangles c.is_empty-is_unmerged.ensures empty) (omega (arith, i)) over under)
 
 pub returns : goal.returns
 returns g c =

@@ -6,7 +6,7 @@ use Rattle.tabled_script.proofs.output.write_spans.Goals as goal
 pub loop-rectangle-preserved : goal.loop-rectangle-preserved
 loop-rectangle-preserved g c =
     let contents = g.W.Write.contents in
-    let anchors = c.anchors-rectangle-items.result.now in
+    let anchors = c.rectangles-rectangle-items.result.now in
     let i = c.loop-rectangle.rectangle-index in
     let anchor = get_or anchors i (record { first = record { row = 0; col = 0 }; size = sized 0 0 }) in
     let before = flat_map span_line (take i anchors) in
@@ -19,5 +19,5 @@ loop-rectangle-preserved g c =
 
 pub returns-clause-sends : goal.returns-clause-sends
 returns-clause-sends g c =
-    let all = take_all c.loop-rectangle.rectangle-index c.anchors-rectangle-items.result.now (omega arith) in
-    subst (λ anchors. Sends (g.W.Write.contents c.args.writer.now) c.args.held.now (g.W.Write.contents c.loop-rectangle.writer) c.loop-rectangle.held (flat_map span_line anchors)) (all ∙ c.anchors-rectangle-items.ensures.anchors) c.loop-rectangle.invariant.sends
+    let all = take_all c.loop-rectangle.rectangle-index c.rectangles-rectangle-items.result.now (omega arith) in
+    subst (λ anchors. Sends (g.W.Write.contents c.args.writer.now) c.args.held.now (g.W.Write.contents c.loop-rectangle.writer) c.loop-rectangle.held (flat_map span_line anchors)) (all ∙ c.rectangles-rectangle-items.ensures.rectangles) c.loop-rectangle.invariant.sends

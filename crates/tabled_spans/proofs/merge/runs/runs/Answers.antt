@@ -14,7 +14,7 @@ loop-i-init g c =
         subst (λ es. RunsFrom c.args.axis e texts c.args.cfg.now block end block.first.col (reverse es)) (sym c.new-sizes.ensures.items) (none_below c.args.axis e texts c.args.cfg.now block end block.first.col (omega arith)),
         subst (AreTails c.args.axis e texts c.args.cfg.now block end block.first.col) (sym ones) (tails_below c.args.axis e texts c.args.cfg.now block is end block.first.col (omega arith)),
       ),
-      λ row _. rw c.anchors-ahead.ensures.anchors (stand_none c.args.cfg.now row),
+      λ row _. rw c.rectangles-ahead.ensures.rectangles (stand_none c.args.cfg.now row),
     )
 
 pub loop-j-init : goal.loop-j-init
