@@ -1,7 +1,7 @@
 -- Tails of runs: the lengths that are carried from each cell to the one before it.
-use Rattle.tabled_spans.proofs.Common.{◌+◌, ◌-◌, ◌<◌, ◌∙◌, ◌≡◌, ◌≢◌, ◌≤◌, ◌⊎◌, AreTails, Axis, Before, Columns, Entity, Grid, In, IsBand, IsInside, IsTail, Joins, List, Position, Rectangle, Rows, SpanMap, ap, ap₂, arith, cases_lt, cases_place, common_steps, further, get_or-replicate, get_or-set_other, get_or-set_same, inl, inr, length-replicate, length-set, line_of, place, refl, replicate, slice_index, slice_set, subst, sym, ℕ}
+use Rattle.tabled_spans.proofs.Common.{◌+◌, ◌-◌, ◌<◌, ◌∙◌, ◌≡◌, ◌≢◌, ◌≤◌, ◌⊎◌, AreTails, Axis, Before, Columns, Entity, Grid, In, IsBand, IsTail, Joins, List, Position, Rectangle, Rows, SpanMap, ap, ap₂, arith, cases_lt, cases_place, common_steps, further, get_or-replicate, get_or-set_other, get_or-set_same, inl, inr, length-replicate, length-set, line_of, place, refl, replicate, slice_index, slice_set, subst, suc, sym, zero, ℕ}
 use Rattle.tabled_spans.proofs.RunLists.{in_row, next_row, one_more, split_last}
-use Rattle.tabled_spans.proofs.Runs.{further_back, further_none, same_last}
+use Rattle.tabled_spans.proofs.Runs.{further_back, further_more, further_none, same_last}
 
 -- the cell after a place along the axis comes not before the next place, row by row
 next_after : (axis : Axis) (p : Position) → Before p.row (p.col + 1) (further axis 1 p) → ⊥
@@ -30,17 +30,20 @@ module _ (axis : Axis) (entity : Entity) (g : Grid (List ℕ)) (m : SpanMap) whe
   pub tail_joins : (p : Position) (many : ℕ) → IsTail axis entity g m p many → 2 ≤ many → Joins axis entity g m p
   tail_joins p many tail two = subst (Joins axis entity g m) (further_none axis p) (tail.joins 0 (omega arith))
 
-  -- with one cell before it, a tail is no longer than a line
-  pub tail_fits : (last p : Position) (many bound : ℕ) → further axis 1 last ≡ p → IsInside g p → IsTail axis entity g m p many → g.rows < bound → g.columns < bound → many + 1 < bound
-  tail_fits last p many bound is inside tail high wide = either axis is (cases_lt 1 many) (λ two. (tail.joins (many - 2) (omega arith)).next.inside)
-    where
-      either : (x : Axis) → further x 1 last ≡ p → (1 < many) ⊎ (many ≤ 1) → (1 < many → IsInside g (further x 1 (further x (many - 2) p))) → many + 1 < bound
-      either Rows e (inl two) within = let there = (within two).row in omega (arith, there, high, two, ap (λ (y : Position). y.row) e)
-      either Rows e (inr one) within = omega (arith, high, one, inside.row, ap (λ (y : Position). y.row) e)
-      either Columns e (inl two) within = let there = (within two).col in omega (arith, there, wide, two, ap (λ (y : Position). y.col) e)
-      either Columns e (inr one) within = omega (arith, wide, one, inside.col, ap (λ (y : Position). y.col) e)
-
   module _ (block : Rectangle) (is : IsBand axis entity g block) where
+    -- a tail lies in the block
+    tail_inside : (p : Position) (many k : ℕ) → In block p → IsTail axis entity g m p many → k < many → In block (further axis k p)
+    tail_inside p many zero inside tail less = subst (In block) (sym (further_none axis p)) inside
+    tail_inside p many (suc k) inside tail less = subst (In block) (further_more axis k (suc k) p (omega arith)) (is.next (further axis k p) (tail_inside p many k inside tail (omega arith)) (tail.joins k (omega arith)).next)
+
+    -- with one cell before it, it is shorter than a line of the block
+    pub tail_fits : (last p : Position) (many bound : ℕ) → further axis 1 last ≡ p → In block p → IsTail axis entity g m p many → block.first.row + block.size.height < bound → block.first.col + block.size.width < bound → many + 1 < bound
+    tail_fits last p many bound next inside tail high wide = fits axis next (tail_inside p many (many - 1) inside tail (omega (arith, tail.some)))
+      where
+        fits : (x : Axis) → further x 1 last ≡ p → In block (further x (many - 1) p) → many + 1 < bound
+        fits Rows e end = omega (arith, end.bottom, high, tail.some, ap (λ (y : Position). y.row) e)
+        fits Columns e end = omega (arith, end.right, wide, tail.some, ap (λ (y : Position). y.col) e)
+
     -- below the block
     pub tails_below : (i j : ℕ) → block.first.row + block.size.height ≤ i → AreTails axis entity g m block i j (replicate block.size.width 1)
     tails_below i j high = record {

@@ -13,8 +13,8 @@ use crate::merge::block::{block_of_lines, has_neighbours};
 use crate::merge::lines::{Lines, marked_range};
 use crate::merge::runs::{runs_in_block, runs_of};
 use std::alloc::{AllocError, Global};
-use tabled_grid::config::{Entity, Rectangle, Size, SpannedConfig};
-use tabled_grid::records::{Axis, CellText, ExactRecords, PeekableRecords, Records};
+use tabled_grid::config::{Entity, Rectangle, SpannedConfig};
+use tabled_grid::records::{Axis, CellText, ExactRecords, PeekableRecords, Records, shape_of};
 
 /// Makes each run along an axis, among the cells that each of some entities names, one merged cell: what comes of
 /// one entity after another, since runs lie in lines of their own.
@@ -39,10 +39,7 @@ where
     ensures err { OnErr result (cfg.new ≡ cfg.old) }
     ensures none { AlwaysYields I.next_gives (λ e. e) entities [] → IsOk result }
 {
-    let size = Size {
-        height: records.count_rows(),
-        width: records.count_columns(),
-    };
+    let size = shape_of(records);
     if !has_neighbours(axis, size) {
         return Ok(());
     }
@@ -92,10 +89,7 @@ where
     requires many { length marks.now ≡ count_along (across axis) (R.grid records.now) }
     ensures { IfOk result (λ sizes. RunsIn axis (λ line. get_or marks.now line false) (map_grid R.Cell.text_of (R.grid records.now)) cfg.now sizes.items) }
 {
-    let table = Size {
-        height: records.count_rows(),
-        width: records.count_columns(),
-    };
+    let table = shape_of(records);
     let (line, many) = marked_range(marks);
     let band = block_of_lines(axis, table, line, many);
     let mut sizes = runs_in_block(alloc, records, cfg, axis, band)?;

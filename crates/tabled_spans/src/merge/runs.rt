@@ -119,6 +119,8 @@ where
     requires block { (e : Entity) × IsBand axis e (map_grid R.Cell.text_of (R.grid records.now)) block }
     requires covered { cover.now.block ≡ block }
     requires cover { IsCoverOf cfg.now cover.now }
+    requires bottom { block.first.row + block.size.height < 2 ^ 64 }
+    requires right { block.first.col + block.size.width < 2 ^ 64 }
     requires inside { In block pos }
     requires ahead { StandBelow cfg.now pos.row ahead }
     requires width { length lengths.old ≡ block.size.width }
@@ -126,8 +128,6 @@ where
     ensures run { (e : Entity) → IsBand axis e (map_grid R.Cell.text_of (R.grid records.now)) block → RunAt axis e (map_grid R.Cell.text_of (R.grid records.now)) cfg.now pos result }
     ensures lengths { (e : Entity) → IsBand axis e (map_grid R.Cell.text_of (R.grid records.now)) block → AreTails axis e (map_grid R.Cell.text_of (R.grid records.now)) cfg.now block pos.row pos.col lengths.new }
 {
-    // Counts tell that a length is still a `usize`.
-    let _ = (records.count_rows(), records.count_columns());
     let left = block.first.col;
     let many = lengths[pos.col - left];
     let Some(last) = before(axis, block, pos) else {

@@ -8,7 +8,7 @@ use Rattle.tabled_spans.proofs.merge.each.merge_each.Goals as goal
 pub returns-then-not-has_neighbours-clause-ok : goal.returns-then-not-has_neighbours-clause-ok
 returns-then-not-has_neighbours-clause-ok g c = λ items gives.
     let texts = map_grid g.R.Cell.CellText.text_of (g.R.GridStore.grid c.args.records.now) in
-    none_merged_each c.args.axis texts items c.args.cfg.now (no_neighbours c.args.axis texts c.args.cfg.now _ c.count_rows.ensures.rows c.count_columns.ensures.columns (λ lines cells. let t = c.has_neighbours.ensures.1 (lines, cells) in let f = c.if-not-has_neighbours.true in cc))
+    none_merged_each c.args.axis texts items c.args.cfg.now (no_neighbours c.args.axis texts c.args.cfg.now _ c.shape_of-size.ensures.rows c.shape_of-size.ensures.columns (λ lines cells. let t = c.has_neighbours.ensures.1 (lines, cells) in let f = c.if-not-has_neighbours.true in cc))
 
 pub returns-in-Nothing-clause-ok : goal.returns-in-Nothing-clause-ok
 returns-in-Nothing-clause-ok g c = λ items gives.

@@ -8,7 +8,7 @@ use Rattle.tabled_spans.proofs.merge.each.runs_marked.Goals as goal
 pub returns : goal.returns
 returns g c =
     let texts = map_grid g.R.Cell.CellText.text_of (g.R.GridStore.grid c.args.records.now) in
-    let high = sym c.count_rows.ensures.rows in
-    let wide = sym c.count_columns.ensures.columns in
+    let high = sym c.shape_of-table.ensures.rows in
+    let wide = sym c.shape_of-table.ensures.columns in
     let band = c.block_of_lines-band.ensures in
     rw (c.keep_marked.ensures) (runs_kept c.args.axis texts (λ (line : ℕ). get_or c.args.marks.now line false) c.args.cfg.now c.block_of_lines-band.result (λ p at is. let within = c.marked_range-line.ensures.marked (line_at c.args.axis p) is in band.cells texts high wide p at within.0 within.1) c.in_ok-sizes.sizes.items (c.in_ok-sizes.ensures Global (band.band texts high wide)))

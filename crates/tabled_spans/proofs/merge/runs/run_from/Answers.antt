@@ -41,7 +41,7 @@ overflow_add-lengths g c =
     let is = c.requires.block.1 in
     let tail = tail_here c.args.axis e texts c.args.cfg.now block is c.args.pos c.requires.inside c.args.lengths.now (c.requires.lengths e is) in
     let many = slice_index c.args.lengths.now (c.args.pos.col - block.first.col) in
-    let few : many + 1 < 2 ^ 64 = tail_fits c.args.axis e texts c.args.cfg.now c.in-Some.last c.args.pos many (2 ^ 64) c.in-Some.ensures.some.0 (is.named c.args.pos c.requires.inside).inside tail (omega (arith, c.count_rows.ensures.rows)) (omega (arith, c.count_columns.ensures.columns)) in
+    let few : many + 1 < 2 ^ 64 = tail_fits c.args.axis e texts c.args.cfg.now block is c.in-Some.last c.args.pos many (2 ^ 64) c.in-Some.ensures.some.0 c.requires.inside tail c.requires.bottom c.requires.right in
     omega (arith, few)
 
 pub returns-then-joins-clause-run : goal.returns-then-joins-clause-run
