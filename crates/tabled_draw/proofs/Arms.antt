@@ -86,10 +86,6 @@ none-one a b c d o e f h k = none-from (differ a b) (differ b d) (differ c d) (d
     one : (x y : Option Rectangle) → x ≡ Some o → y ≡ Some o → differ x y ≡ false
     one x y e f = ap₂ differ e f ∙ differ-self (Some o)
 
--- arms in a row, where two places stand above themselves
-pub arms-row : (a b : Option Rectangle) → are_none (arms a b a b) ≡ not (differ a b)
-arms-row a b = elim (differ a b) as (λ x. are_none (record { up = x; right = differ b b; down = x; left = differ a a }) ≡ not x) [ true ↦ refl | false ↦ rw (differ-self b, differ-self a) refl ]
-
 pub same-arms : (a b c d a' b' c' d' : Bool) → a ≡ a' → b ≡ b' → c ≡ c' → d ≡ d' → (let x : Arms = record { up = a; right = b; down = c; left = d } in x) ≡ record { up = a'; right = b'; down = c'; left = d' }
 same-arms a b c d a' b' c' d' e f h k = rw (e, f, h, k) refl
 

@@ -14,7 +14,7 @@ use Rattle.tabled_draw.specs.Picture.{line_columns}
 
 -- ---- the characters of a style
 
-blank-fine : IsFineMark 32
+pub blank-fine : IsFineMark 32
 unfolding unicode_width
 blank-fine = record { wide = refl; plain = record { above = omega arith; no_delete = λ e. omega (arith, e); outside = inl (omega arith) } }
 

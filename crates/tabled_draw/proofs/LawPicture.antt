@@ -3,7 +3,7 @@ use Rattle.tabled_draw.proofs.Common.{Alignment, AllByRecursion, AreNoControls, 
 use Rattle.std.proofs.Common.{chars}
 use borrow.Author.Tests.{ne_eqb}
 use Rattle.tabled_draw.proofs.Each.{all-each, get-singles, length-singles, split-each}
-use Rattle.tabled_draw.proofs.LawLines.{IsLineOf, level-fine, line-wide, mark-fine}
+use Rattle.tabled_draw.proofs.LawLines.{blank-fine, IsLineOf, level-fine, line-wide, mark-fine}
 use Rattle.tabled_draw.proofs.Owned.{LieWell}
 use Rattle.std.proofs.lemmas.Bool.{or_right}
 use Rattle.tabled_grid.specs.declared.records.axis.Axis.{Axis}
@@ -203,18 +203,11 @@ all-texts (x ∷ lines) = (all-shown (chars x), all-texts lines)
 line-fine : (lines : List (List ℕ)) (k : ℕ) → AllByRecursion AreNoControls lines → AreNoControls (get_or lines k [])
 line-fine lines k h1 = grind (arith, common_steps, nat_tests)
 
-all-repeated : (n c : ℕ) → IsNoControl c → AreNoControls (replicate n c)
-all-repeated zero c s = tt
-all-repeated (suc n) c s = (s, all-repeated n c s)
-
-blank-fine : IsNoControl 32
-blank-fine = record { above = omega arith; no_delete = λ e. omega (arith, e); outside = inl (omega arith) }
-
 module _ (plan : Plan) (aligns : List Alignment) (fine : IsFine plan.style) where
   all-aligned : (alignment : Alignment) (space : ℕ) (shown : List ℕ) → AreNoControls shown → AreNoControls (aligned alignment space shown)
   all-aligned alignment space shown h =
       let before = indent alignment (space - text_width shown) in
-      all-append IsNoControl (replicate (before + 1) 32) (shown ++ replicate (space - text_width shown - before + 1) 32) (all-repeated (before + 1) 32 blank-fine) (all-append IsNoControl shown (replicate (space - text_width shown - before + 1) 32) h (all-repeated (space - text_width shown - before + 1) 32 blank-fine))
+      all-append IsNoControl (replicate (before + 1) 32) (shown ++ replicate (space - text_width shown - before + 1) 32) (all-replicate IsNoControl (before + 1) 32 blank-fine.plain) (all-append IsNoControl shown (replicate (space - text_width shown - before + 1) 32) h (all-replicate IsNoControl (space - text_width shown - before + 1) 32 blank-fine.plain))
 
   all-shows : (n : ℕ) (o : Rectangle) → AreNoControls (shows plan aligns n o)
   all-shows n o = all-aligned (alignment_in aligns o.first.col) (room Columns (line_width plan) (widths plan) o.first.col o.size.width) _ (line-fine (lines_shown (text_of_cell plan.grid o.first)) (n - top plan o.first.row - line_height plan o.first.row) (all-texts _))
@@ -230,13 +223,13 @@ module _ (plan : Plan) (aligns : List Alignment) (fine : IsFine plan.style) wher
   all-edge u d j =
       let meeting = arms (whose u j) (whose u (j + 1)) (whose d j) (whose d (j + 1)) in
       let marks = replicate (line_width plan j) (mark plan.style (eqb u d) meeting) in
-      cond_both (are_none meeting) [] marks AreNoControls (λ none. tt) (λ some. all-repeated (line_width plan j) _ (mark-fine plan.style fine (eqb u d) meeting).plain)
+      cond_both (are_none meeting) [] marks AreNoControls (λ none. tt) (λ some. all-replicate IsNoControl (line_width plan j) _ (mark-fine plan.style fine (eqb u d) meeting).plain)
 
   all-column : (n u d j : ℕ) → AreNoControls (column_at plan aligns n u d j)
   all-column n u d j =
       let level = replicate (get_or (widths plan) j 0 + 2) plan.style.horizontal in
       cond_both (differ (whose u (j + 1)) (whose d (j + 1))) level (shows_in plan aligns n j (whose u (j + 1))) AreNoControls
-      (λ apart. all-repeated (get_or (widths plan) j 0 + 2) _ (level-fine plan.style fine).plain)
+      (λ apart. all-replicate IsNoControl (get_or (widths plan) j 0 + 2) _ (level-fine plan.style fine).plain)
       (λ one. all-shows_in n j (whose u (j + 1)))
 
   all-line : (n u d : ℕ) → AreNoControls (line_at plan aligns n u d)

@@ -77,9 +77,6 @@ record IsReplaced (c : ℕ) : Type 0 where
 shown-low : (c : ℕ) → c < 32 → shown_character c ≡ 0x2400 + c
 shown-low c h = grind (arith, nat_tests)
 
-shown-delete : shown_character 127 ≡ 0x2421
-shown-delete = refl
-
 shown-high : (c : ℕ) → 127 < c → c < 160 → shown_character c ≡ 0xFFFD
 shown-high c low high = grind (arith, nat_tests)
 

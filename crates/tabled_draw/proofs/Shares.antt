@@ -64,9 +64,6 @@ unfolding span
 span-larger axis lines s t l at zero = omega arith
 span-larger axis lines s t l at (suc n) = omega (arith, span-larger axis lines s t l at n, l.each (at + n))
 
-get_or-set : (s : List ℕ) (i v k : ℕ) → get_or s i 0 ≤ v → get_or s k 0 ≤ get_or (set s i v) k 0
-get_or-set s i v k h1 = grind (arith, common_steps, nat_tests)
-
 -- ---- shares
 
 -- one share and the rest

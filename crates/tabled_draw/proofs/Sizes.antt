@@ -236,10 +236,6 @@ line-least (x ∷ lines) a (suc k) = line-least lines (max a (text_width x)) k
 pub fold-more : {A B : Type 0} (f : B → A → B) (a : B) (xs : List A) (k : ℕ) (d : A) → k < length xs → fold f a (take (k + 1) xs) ≡ f (fold f a (take k xs)) (get_or xs k d)
 fold-more f a xs k d h = ap (fold f a) (take_more xs k d h) ∙ fold-append f a (take k xs) (get_or xs k d ∷ [])
 
--- what is known of a merged cell of those that fit
-pub anchor-at : (m : SpanMap) (rows columns : ℕ) → Fits m rows columns → (k : ℕ) (d : Rectangle) → k < length (rectangles m) → LiesIn rows columns (get_or (rectangles m) k d)
-anchor-at m rows columns fits k d h = (fits-well m rows columns fits).lies (get_or (rectangles m) k d) (member-at (rectangles m) k d h)
-
 -- they stand in order where they are put so by what each takes
 pub order-is : (axis : Axis) (g : Grid (List ℕ)) (m : SpanMap) (xs order : List Rectangle) → Fits m g.rows g.columns → xs ≡ rectangles m
     → ((k n : ℕ) → AllByRecursion (λ (e : Rectangle). (lines_in axis e.size < k) × (line_of axis e.first < n)) xs → order ≡ by_number (λ (e : Rectangle). lines_in axis e.size) k (by_number (λ (e : Rectangle). line_of axis e.first) n xs))
@@ -251,7 +247,7 @@ order-is axis g m xs order fits is put =
     below : {n at : ℕ} → (1 ≤ n) × (at + n ≤ count_along axis g) → (n < count_along axis g + 1) × (at < count_along axis g)
     below h = (omega (arith, h.0, h.1), omega (arith, h.0, h.1))
 
--- and of one of them in order
+-- one of those in order lies in the table
 pub ordered-at : (axis : Axis) (g : Grid (List ℕ)) (m : SpanMap) (rows columns : ℕ) → Fits m rows columns → (xs : List Rectangle) → xs ≡ in_order axis g (rectangles m) → (k : ℕ) (e : Rectangle) → k < length xs → e ≡ get_or xs k e → LiesIn rows columns e
 ordered-at axis g m rows columns fits xs is k e h at =
     let among : Member e (in_order axis g (rectangles m)) = subst (λ (ys : List Rectangle). Member e ys) is (subst (λ (x : Rectangle). Member x xs) (sym at) (member-at xs k e h)) in
