@@ -1,5 +1,5 @@
 -- Sizes that grow by what is lacking.
-use Rattle.tabled_draw.proofs.Common.{List, add-one, add-zero, add_assoc, ap, ap₂, arith, cases_eq, cases_lt, common_steps, cond, cond-false, ext_get_or, false, get_or, get_or-set_other, get_or-set_same, get_or_past, grown_sizes, inl, inr, is_in_range, length, length-set, nat_tests, pad, refl, room, set, share, start_of, subst, suc, sym, zero, ℕ, ◌%◌, ◌*◌, ◌+◌, ◌-◌, ◌/◌, ◌<◌, ◌==◌, ◌∙◌, ◌≡◌, ◌≢◌, ◌≤◌, ◌⊎◌}
+use Rattle.tabled_draw.proofs.Common.{List, add-one, add-zero, add_assoc, ap, ap₂, arith, cases_eq, cases_lt, cond, cond-false, ext_get_or, false, get_or, get_or-set_other, get_or-set_same, get_or_past, grown_sizes, inl, inr, is_in_range, length, length-set, nat_tests, pad, refl, room, set, share, start_of, subst, suc, sym, zero, ℕ, ◌%◌, ◌*◌, ◌+◌, ◌-◌, ◌/◌, ◌<◌, ◌==◌, ◌∙◌, ◌≡◌, ◌≢◌, ◌≤◌, ◌⊎◌}
 use Rattle.std.proofs.Math.Nat.{div-add-mod}
 use Rattle.tabled_draw.proofs.Each.{get-singles, length-singles}
 use Rattle.tabled_grid.specs.declared.records.axis.Axis.{Axis}

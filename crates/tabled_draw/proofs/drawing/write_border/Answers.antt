@@ -6,10 +6,11 @@ use Rattle.tabled_draw.proofs.drawing.write_border.Goals as goal
 
 pub returns-then-is_unmerged-clause-draws : goal.returns-then-is_unmerged-clause-draws
 returns-then-is_unmerged-clause-draws g c =
-    let drawn : is_drawn c.args.sheet.now.look.style.rows c.args.sheet.now.rows c.args.i ≡ true = sym c.is_drawn.ensures ∙ c.if-not-is_drawn.false in
+    let sheet = c.args.sheet.now in
+    let drawn : is_drawn sheet.look.style.rows sheet.rows c.args.i ≡ true = sym c.is_drawn.ensures ∙ c.if-not-is_drawn.false in
     draws-as
-    (ap (λ n. unmerged_line c.args.sheet.now.look.style c.args.sheet.now.rows n c.args.i c.args.sheet.now.edges.now) c.requires.columns
-    ∙ unmerged-is c.args.sheet.now.rows (length c.args.rests.now.items) c.args.i c.args.above.now c.args.below.now (c.requires.unmerged c.if-is_unmerged.true) c.args.sheet.now (bytes_in c.args.rests.now.items)
+    (ap (λ n. unmerged_line sheet.look.style sheet.rows n c.args.i sheet.edges.now) c.requires.columns
+    ∙ unmerged-is sheet.rows (length c.args.rests.now.items) c.args.i c.args.above.now c.args.below.now (c.requires.unmerged c.if-is_unmerged.true) sheet (bytes_in c.args.rests.now.items)
     ∙ sym (cond-true _ _ _ drawn))
     c.write_known_line.ensures.draws
 

@@ -56,18 +56,20 @@ write_border-requires-clause-unmerged g c =
 
 pub returns : goal.returns
 returns g c =
+    let rests = c.loop-i.band.rests.items in
+    let sheet = c.args.sheet.now in
     let t = map_grid g.R.Cell.CellText.text_of (g.R.GridStore.grid c.args.records.now) in
     let m = c.args.spans.now in
     let i : c.loop-i.i ≡ t.rows = omega (arith, c.loop-i-test.false, c.loop-i.auto.i-end, c.requires.sheet.rows) in
     let over : IsOwnerRow t.rows t.columns (rectangles m) c.loop-i.i c.deref.result.now = rw c.deref.ensures.value c.loop-i.invariant.band.above in
     let under : IsOwnerRow t.rows t.columns (rectangles m) (c.loop-i.i + 1) c.deref-2.result.now = rw c.deref-2.ensures.value (row-outside t.rows t.columns m (c.loop-i.i + 1) c.clear-2.new.row.items (λ j. owner-below t.rows t.columns (rectangles m) (c.loop-i.i + 1) j (omega (arith, i))) (c.clear-2.ensures.long ∙ c.loop-i.invariant.band.here) c.clear-2.ensures.none) in
-    let style = c.args.sheet.now.look.style in
-    let aligns = c.args.sheet.now.look.alignments.now in
-    let plan = plan_on c.args.sheet.now t c.args.spans.now in
-    let last : c.args.sheet.now.rows ≡ c.loop-i.i = c.requires.sheet.rows ∙ sym i in
-    let drawn : Draws g.W.Write.contents c.loop-i.pen c.write_border.new.pen (drawn_border c.args.sheet.now c.loop-i.i c.deref.result.now c.deref-2.result.now (length c.loop-i.band.rests.items) (bytes_in c.loop-i.band.rests.items)) =
-    draws-as (ap (λ k. drawn_border c.args.sheet.now k c.deref.result.now c.deref-2.result.now (length c.loop-i.band.rests.items) (bytes_in c.loop-i.band.rests.items)) last) c.write_border.ensures.draws in
+    let style = sheet.look.style in
+    let aligns = sheet.look.alignments.now in
+    let plan = plan_on sheet t c.args.spans.now in
+    let last : sheet.rows ≡ c.loop-i.i = c.requires.sheet.rows ∙ sym i in
+    let drawn : Draws g.W.Write.contents c.loop-i.pen c.write_border.new.pen (drawn_border sheet c.loop-i.i c.deref.result.now c.deref-2.result.now (length rests) (bytes_in rests)) =
+    draws-as (ap (λ k. drawn_border sheet k c.deref.result.now c.deref-2.result.now (length rests) (bytes_in rests)) last) c.write_border.ensures.draws in
     draws-as (all-rows plan aligns c.loop-i.i i c.requires.high c.requires.wide) (draws-then c.loop-i.invariant.drawn
-    (draws-as (border-text c.args.sheet.now t m c.requires.sheet.fits c.requires.sheet.edges c.loop-i.i (top plan c.loop-i.i) c.deref.result.now c.deref-2.result.now c.loop-i.band.rests.items c.requires.sheet.rows refl over under c.loop-i.invariant.band.left c.loop-i.invariant.band.long
+    (draws-as (border-text sheet t m c.requires.sheet.fits c.requires.sheet.edges c.loop-i.i (top plan c.loop-i.i) c.deref.result.now c.deref-2.result.now rests c.requires.sheet.rows refl over under c.loop-i.invariant.band.left c.loop-i.invariant.band.long
     ∙ ap (λ k. with_newlines (border_line plan aligns k)) i)
     drawn))

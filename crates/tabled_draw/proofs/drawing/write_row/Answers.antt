@@ -23,16 +23,17 @@ write_row_line-requires-clause-inside g c = rw (c.loop-y.invariant.long, c.deref
 
 pub loop-y-init : goal.loop-y-init
 loop-y-init g c =
+    let sheet = c.args.sheet.now in
     let t = map_grid g.R.Cell.CellText.text_of (g.R.GridStore.grid c.args.records.now) in
     let m = c.args.spans.now in
     let i = c.args.i in
-    let style = c.args.sheet.now.look.style in
-    let aligns = c.args.sheet.now.look.alignments.now in
-    let plan = plan_on c.args.sheet.now t c.args.spans.now in
+    let style = sheet.look.style in
+    let aligns = sheet.look.alignments.now in
+    let plan = plan_on sheet t c.args.spans.now in
     let old = bytes_in c.args.band.now.rests.items in
     let cut = bytes_in c.write_border.new.rests.items in
     let new = bytes_in c.begin.new.rests.items in
-    let drawn = is_drawn style.rows c.args.sheet.now.rows i in
+    let drawn = is_drawn style.rows sheet.rows i in
     let size : line_height plan i ≡ size_if drawn = ap (λ n. size_if (is_drawn style.rows n i)) (sym c.requires.sheet.rows) in
     let over : IsOwnerRow t.rows t.columns (rectangles m) i c.deref-3.result.now = rw c.deref-3.ensures.value c.requires.band.above in
     let under : IsOwnerRow t.rows t.columns (rectangles m) (i + 1) c.deref-4.result.now = rw c.deref-4.ensures.value c.write_owners-band.ensures.here in
@@ -46,19 +47,20 @@ loop-y-init g c =
           (λ j less. c.write_border.ensures.rests j (omega (arith, less, c.requires.band.long)) ∙ ap₂ (λ a b. cond drawn (left_of j a b (get_or old j [])) (get_or old j [])) (over.each (j + 1) (omega (arith, less))) (under.each (j + 1) (omega (arith, less))))
           (λ j less. c.begin.ensures.begun j less ∙ ap (λ a. begun t a (place i j) (get_or cut j [])) (again.each (j + 1) (omega (arith, less)))));
       drawn = draws-as
-          (border-text c.args.sheet.now t m c.requires.sheet.fits c.requires.sheet.edges i (top plan i) c.deref-3.result.now c.deref-4.result.now c.args.band.now.rests.items c.requires.sheet.rows refl over under c.requires.band.left c.requires.band.long ∙ first-below plan aligns i)
+          (border-text sheet t m c.requires.sheet.fits c.requires.sheet.edges i (top plan i) c.deref-3.result.now c.deref-4.result.now c.args.band.now.rests.items c.requires.sheet.rows refl over under c.requires.band.left c.requires.band.long ∙ first-below plan aligns i)
           c.write_border.ensures.draws;
     }
 
 pub loop-y-preserved : goal.loop-y-preserved
 loop-y-preserved g c =
+    let sheet = c.args.sheet.now in
     let t = map_grid g.R.Cell.CellText.text_of (g.R.GridStore.grid c.args.records.now) in
     let m = c.args.spans.now in
     let i = c.args.i in
     let y = c.loop-y._y in
-    let style = c.args.sheet.now.look.style in
-    let aligns = c.args.sheet.now.look.alignments.now in
-    let plan = plan_on c.args.sheet.now t c.args.spans.now in
+    let style = sheet.look.style in
+    let aligns = sheet.look.alignments.now in
+    let plan = plan_on sheet t c.args.spans.now in
     let n = top plan i + line_height plan i + y in
     let old = bytes_in c.loop-y.band.rests.items in
     let new = bytes_in c.write_row_line.new.rests.items in
@@ -74,19 +76,20 @@ loop-y-preserved g c =
       left = subst (λ k. AreLeft plan (i + 1) k new) (add_assoc (top plan i + line_height plan i) y 1) (left-in_row plan (fits-well m _ _ c.requires.sheet.fits) (i + 1) n old new (omega arith) (omega (arith, within)) low c.loop-y.invariant.left
           (λ j less. c.write_row_line.ensures.rests j (omega (arith, less, c.loop-y.invariant.long)) ∙ ap₂ (λ a b. left_of j a b (get_or old j [])) (ap (λ row. get_or row (j + 1) None) c.deref-in-loop-y.ensures.value ∙ own.each (j + 1) (omega (arith, less))) (ap (λ row. get_or row (j + 1) None) c.deref-in-loop-y.ensures.value ∙ own.each (j + 1) (omega (arith, less)))));
       drawn = draws-as (more-below plan aligns i y) (draws-then c.loop-y.invariant.drawn (draws-as
-          (ap (λ a. drawn_line c.args.sheet.now true a a (length c.loop-y.band.rests.items) old) c.deref-in-loop-y.ensures.value ∙ in-row c.args.sheet.now t m c.requires.sheet.fits c.requires.sheet.edges i n here old (length c.loop-y.band.rests.items) own c.loop-y.invariant.left c.loop-y.invariant.long)
+          (ap (λ a. drawn_line sheet true a a (length c.loop-y.band.rests.items) old) c.deref-in-loop-y.ensures.value ∙ in-row sheet t m c.requires.sheet.fits c.requires.sheet.edges i n here old (length c.loop-y.band.rests.items) own c.loop-y.invariant.left c.loop-y.invariant.long)
           c.write_row_line.ensures.draws));
     }
 
 pub returns : goal.returns
 returns g c =
+    let sheet = c.args.sheet.now in
     let t = map_grid g.R.Cell.CellText.text_of (g.R.GridStore.grid c.args.records.now) in
     let m = c.args.spans.now in
     let i = c.args.i in
-    let style = c.args.sheet.now.look.style in
-    let aligns = c.args.sheet.now.look.alignments.now in
-    let plan = plan_on c.args.sheet.now t c.args.spans.now in
-    let e : c.loop-y._y ≡ get_or c.args.sheet.now.heights.now i 0 = omega (arith, c.loop-y-test.false, c.loop-y.auto._y-end) in
+    let style = sheet.look.style in
+    let aligns = sheet.look.alignments.now in
+    let plan = plan_on sheet t c.args.spans.now in
+    let e : c.loop-y._y ≡ get_or sheet.heights.now i 0 = omega (arith, c.loop-y-test.false, c.loop-y.auto._y-end) in
     let y : c.loop-y._y ≡ get_or (heights plan) i 0 = e ∙ ap (λ hs. get_or hs i 0) c.requires.sheet.high in
     let next : top plan (i + 1) ≡ top plan i + (line_height plan i + get_or (heights plan) i 0 + 0) = start-next Rows style t (rectangles m) i in
     record {

@@ -11,21 +11,23 @@ write_column-requires-clause-end g c = λ o owned begins.
 
 pub loop-j-preserved : goal.loop-j-preserved
 loop-j-preserved g c =
+    let columns = c.len-columns.result in
+    let sheet = c.args.sheet.now in
     let j = c.loop-j.j in
     let old = bytes_in c.args.rests.now.items in
     let text : get_or (bytes_in c.loop-j.rests.items) j [] ≡ get_or old j [] = c.loop-j.invariant.rests.left j (omega arith) in
     let a = get_or c.args.above.now (j + 1) None in
     let b = get_or c.args.below.now (j + 1) None in
-    let drawn : c.loop-j.drawn ≡ is_drawn c.args.sheet.now.look.style.columns c.len-columns.result j = c.loop-j.invariant.is_drawn c.loop-j-test.true in
+    let drawn : c.loop-j.drawn ≡ is_drawn sheet.look.style.columns columns j = c.loop-j.invariant.is_drawn c.loop-j-test.true in
     record {
       long = c.write_column.ensures.rests.long ∙ c.loop-j.invariant.long;
       rests = changed-at _ old c.loop-j.rests.items c.write_column.new.rests.items j c.differ-right.result a c.loop-j.invariant.rests c.write_column.ensures.rests (ap₂ (λ apart t. left_if j apart a t) c.differ-right.ensures text);
-      is_drawn = λ more. c.is_drawn_after-drawn.ensures c.len-columns.result more;
+      is_drawn = λ more. c.is_drawn_after-drawn.ensures columns more;
       left = c.differ-right.ensures;
-      drawn = draws-as (sym (each-more (stretch c.args.sheet.now false c.args.above.now c.args.below.now c.len-columns.result old) j))
+      drawn = draws-as (sym (each-more (stretch sheet false c.args.above.now c.args.below.now columns old) j))
           (draws-then c.loop-j.invariant.drawn (draws-then
-          (draws-as (ap (λ d. edge c.args.sheet.now.look.style false (size_if d) (get_or c.args.above.now j None) a (get_or c.args.below.now j None) b) drawn) c.write_corner.ensures)
-          (draws-as (ap₂ (λ d t. column c.args.sheet.now d c.differ-right.result j a t) drawn text ∙ ap (λ apart. column c.args.sheet.now (is_drawn c.args.sheet.now.look.style.columns c.len-columns.result j) apart j a (get_or old j [])) c.differ-right.ensures) c.write_column.ensures.draws)));
+          (draws-as (ap (λ d. edge sheet.look.style false (size_if d) (get_or c.args.above.now j None) a (get_or c.args.below.now j None) b) drawn) c.write_corner.ensures)
+          (draws-as (ap₂ (λ d t. column sheet d c.differ-right.result j a t) drawn text ∙ ap (λ apart. column sheet (is_drawn sheet.look.style.columns columns j) apart j a (get_or old j [])) c.differ-right.ensures) c.write_column.ensures.draws)));
     }
 
 pub returns-clause-draws : goal.returns-clause-draws

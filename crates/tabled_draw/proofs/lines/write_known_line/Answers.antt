@@ -6,7 +6,8 @@ use Rattle.tabled_draw.proofs.lines.write_known_line.Goals as goal
 
 pub returns : goal.returns
 returns g c =
-    let some : c.args.sheet.now.between.now ≢ [] = λ none. false≢true (sym c.if-is_empty.false ∙ c.is_empty.ensures ∙ ap (λ (xs : List ℕ). length xs == 0) none) in
-    let line = unmerged_line c.args.sheet.now.look.style c.args.sheet.now.rows c.args.sheet.now.columns c.args.i c.args.sheet.now.edges.now in
-    let bytes : c.args.sheet.now.between.now ≡ encode_utf8_all line = c.args.sheet.now.is_between.is some ∙ ap encode_utf8_all (between-is c.args.sheet.now.look.style c.args.sheet.now.rows c.args.sheet.now.columns c.args.i c.args.sheet.now.edges.now (omega (arith, c.if-i-eq0.false)) (omega (arith, c.if-sheet-i.false))) in
+    let sheet = c.args.sheet.now in
+    let some : sheet.between.now ≢ [] = λ none. false≢true (sym c.if-is_empty.false ∙ c.is_empty.ensures ∙ ap (λ (xs : List ℕ). length xs == 0) none) in
+    let line = unmerged_line sheet.look.style sheet.rows sheet.columns c.args.i sheet.edges.now in
+    let bytes : sheet.between.now ≡ encode_utf8_all line = sheet.is_between.is some ∙ ap encode_utf8_all (between-is sheet.look.style sheet.rows sheet.columns c.args.i sheet.edges.now (omega (arith, c.if-i-eq0.false)) (omega (arith, c.if-sheet-i.false))) in
     record { draws = draws-bytes bytes c.send.ensures }

@@ -15,27 +15,29 @@ loop-j-init g c = record {
 
 pub loop-j-preserved : goal.loop-j-preserved
 loop-j-preserved g c =
+    let sheet = c.args.sheet.now in
     let j = c.loop-j.j in
-    let drawn : c.loop-j.drawn ≡ is_drawn c.args.sheet.now.look.style.columns c.args.sheet.now.columns j = c.loop-j.invariant.is_drawn c.loop-j-test.true in
-    let mark : c.loop-j.mark ≡ corner_if c.args.sheet.now.look.style (unmerged_arms c.args.sheet.now.rows c.args.sheet.now.columns c.args.i j) = c.loop-j.invariant.mark c.loop-j-test.true in
+    let drawn : c.loop-j.drawn ≡ is_drawn sheet.look.style.columns sheet.columns j = c.loop-j.invariant.is_drawn c.loop-j-test.true in
+    let mark : c.loop-j.mark ≡ corner_if sheet.look.style (unmerged_arms sheet.rows sheet.columns c.args.i j) = c.loop-j.invariant.mark c.loop-j-test.true in
     record {
-      mark = λ more. c.corner-inner.ensures ∙ ap (corner_if c.args.sheet.now.look.style) (same-arms _ _ _ _ _ _ _ _ refl (sym (lt-ltb (j + 1) c.args.sheet.now.columns more)) refl (sym (lt-ltb 0 (j + 1) (omega arith))));
-      is_drawn = λ more. c.is_drawn_after-drawn.ensures c.args.sheet.now.columns more;
-      drawn = draws-as (sym (each-more (unmerged_stretch c.args.sheet.now.look.style c.args.sheet.now.rows c.args.sheet.now.columns c.args.i c.args.sheet.now.edges.now) j))
+      mark = λ more. c.corner-inner.ensures ∙ ap (corner_if sheet.look.style) (same-arms _ _ _ _ _ _ _ _ refl (sym (lt-ltb (j + 1) sheet.columns more)) refl (sym (lt-ltb 0 (j + 1) (omega arith))));
+      is_drawn = λ more. c.is_drawn_after-drawn.ensures sheet.columns more;
+      drawn = draws-as (sym (each-more (unmerged_stretch sheet.look.style sheet.rows sheet.columns c.args.i sheet.edges.now) j))
           (draws-then c.loop-j.invariant.drawn (draws-then
           (draws-as (ap₂ marked drawn mark) c.write_mark.ensures)
-          (draws-as (ap (λ d. level c.args.sheet.now.look.style d c.args.sheet.now.edges.now j) drawn) c.write_level.ensures)));
+          (draws-as (ap (λ d. level sheet.look.style d sheet.edges.now j) drawn) c.write_level.ensures)));
     }
 
 pub returns : goal.returns
 unfolding unmerged_line
 returns g c =
-    let columns = c.args.sheet.now.columns in
+    let sheet = c.args.sheet.now in
+    let columns = sheet.columns in
     let end : c.loop-j.j ≡ columns = omega (arith, c.loop-j-test.false, c.loop-j.auto.j-end) in
-    let last : c.corner-last.result ≡ corner_if c.args.sheet.now.look.style (unmerged_arms c.args.sheet.now.rows columns c.args.i columns) = c.corner-last.ensures ∙ ap (corner_if c.args.sheet.now.look.style) (same-arms (nat_lt 0 c.args.i) false (nat_lt c.args.i c.args.sheet.now.rows) (nat_lt 0 columns) (nat_lt 0 c.args.i) (nat_lt columns columns) (nat_lt c.args.i c.args.sheet.now.rows) (nat_lt 0 columns) refl (sym (le-ltb columns columns (omega arith))) refl refl) in
+    let last : c.corner-last.result ≡ corner_if sheet.look.style (unmerged_arms sheet.rows columns c.args.i columns) = c.corner-last.ensures ∙ ap (corner_if sheet.look.style) (same-arms (nat_lt 0 c.args.i) false (nat_lt c.args.i sheet.rows) (nat_lt 0 columns) (nat_lt 0 c.args.i) (nat_lt columns columns) (nat_lt c.args.i sheet.rows) (nat_lt 0 columns) refl (sym (le-ltb columns columns (omega arith))) refl refl) in
     record {
       draws = draws-then (draws-then
-          (draws-as (ap (λ n. each n (unmerged_stretch c.args.sheet.now.look.style c.args.sheet.now.rows columns c.args.i c.args.sheet.now.edges.now)) end) c.loop-j.invariant.drawn)
+          (draws-as (ap (λ n. each n (unmerged_stretch sheet.look.style sheet.rows columns c.args.i sheet.edges.now)) end) c.loop-j.invariant.drawn)
           (draws-as (ap₂ marked c.is_drawn.ensures last) c.write_mark-2.ensures))
           c.end_line.ensures;
     }

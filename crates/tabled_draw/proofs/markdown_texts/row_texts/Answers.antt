@@ -1,5 +1,5 @@
 use Rattle.tabled_draw.specs.Markdown.{cell_apart, characters}
-use Rattle.tabled_draw.proofs.Common.{[], ap, ap₂, arith, each, map, map_grid, place, rectangles, sym, ◌++◌, ◌+◌, ◌∙◌, ◌∷◌, ◌≡◌}
+use Rattle.tabled_draw.proofs.Common.{[], ap, ap₂, arith, each, map_grid, place, rectangles, sym, ◌++◌, ◌+◌, ◌∙◌, ◌∷◌, ◌≡◌}
 use Rattle.std.proofs.lemmas.List.{length-append, map-append}
 use Rattle.tabled_draw.proofs.Each.{each-more}
 use Rattle.tabled_draw.proofs.markdown_texts.row_texts.Goals as goal
