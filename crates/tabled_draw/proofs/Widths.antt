@@ -1,50 +1,14 @@
 -- How wide a text is beside others: what unicode_width reads from its end.
-use Rattle.tabled_draw.proofs.Common.{AllByRecursion, ArePlain, Bool, IsFineMark, List, [], add-one, add-zero, ap, arith, cases_lt, cond, false, inl, inr, length, length-replicate, nat_tests, not, refl, replicate, subst, suc, sym, text_width, true, zero, ℕ, ◌++◌, ◌+◌, ◌<◌, ◌∙◌, ◌∷◌, ◌≡◌, ◌≤◌, ◌⊎◌}
+use Rattle.tabled_draw.proofs.Common.{AllByRecursion, ArePlain, IsFineMark, List, [], add-one, add-zero, ap, arith, cases_lt, false, inl, inr, length, length-replicate, nat_tests, refl, replicate, subst, suc, sym, text_width, zero, ℕ, ◌++◌, ◌+◌, ◌<◌, ◌∙◌, ◌∷◌, ◌≡◌, ◌≤◌, ◌⊎◌}
 use Rattle.std.proofs.lemmas.List.Elements.{All-head, All-tail}
-use Rattle.std.specs.List.{list_all}
+pub use Rattle.tabled_width.proofs.Reading.{columns-blanks, cond-alike}
+use Rattle.tabled_width.proofs.Reading.{read-append, read-blank, read-shifted}
 use Rattle.unicode_width.proofs.Computing.{unicode_width}
-use Rattle.unicode_width.proofs.Rules.{is_simple, str_width-append_simple}
 use Rattle.unicode_width.specs.Width.{Reading, alone, past_emoji, plain, read_before, step, str_width}
-
--- ---- reading on
-
-pub read-append : (xs ys : List ℕ) (r : Reading) → read_before false (xs ++ ys) r ≡ read_before false xs (read_before false ys r)
-read-append [] ys r = refl
-read-append (x ∷ xs) ys r = ap (step false x) (read-append xs ys r)
-
--- whatever is tested, where both ways come to one
-pub cond-alike : {A : Type 0} (b : Bool) (x y z : A) → x ≡ z → y ≡ z → cond b x y ≡ z
-cond-alike true x y z p q = p
-cond-alike false x y z p q = q
-
--- a blank counts one, whatever stands behind it
-pub read-blank : (r : Reading) → step false 32 r ≡ (r.0 + 1, plain)
-unfolding unicode_width
-read-blank (t, s) = cond-alike (not s.emoji) (t + 1, plain) (t + 1, plain) (t + 1, plain) refl refl
-
-read-blanks : (n t : ℕ) → read_before false (replicate n 32) (t, plain) ≡ (t + n, plain)
-read-blanks zero t = ap (λ k. (k, plain)) (sym (add-zero t))
-read-blanks (suc n) t = ap (step false 32) (read-blanks n t) ∙ read-blank (t + n, plain) ∙ ap (λ k. (k, plain)) (let e : t + n + 1 ≡ t + suc n = omega arith in e)
-
-blanks-simple : (n : ℕ) → list_all is_simple (replicate n 32) ≡ true
-blanks-simple zero = refl
-blanks-simple (suc n) = blanks-simple n
-
-pub columns-blanks : (n : ℕ) → text_width (replicate n 32) ≡ n
-unfolding str_width
-columns-blanks n = ap (λ r. r.0) (read-blanks n 0) ∙ (let e : 0 + n ≡ n = omega arith in e)
 
 pub columns-nil : text_width [] ≡ 0
 unfolding str_width
 columns-nil = refl
-
--- what is added behind a text is added to its width
-read-shifted : (xs : List ℕ) (t : ℕ) → (read_before false xs (t, plain)).0 ≡ text_width xs + t
-unfolding str_width
-read-shifted xs t =
-    let none : 0 + t ≡ t = omega arith in
-    ap (λ k. (read_before false xs (k, plain)).0) (sym none) ∙ ap (λ r. (read_before false xs r).0) (sym (read-blanks t 0)) ∙ ap (λ r. r.0) (sym (read-append xs (replicate t 32) (0, plain)))
-    ∙ str_width-append_simple false xs (replicate t 32) (blanks-simple t) ∙ ap (λ n. str_width false xs + n) (columns-blanks t)
 
 -- ---- texts before which others are read as at the end of a line
 

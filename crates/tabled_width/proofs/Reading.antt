@@ -29,7 +29,7 @@ blanks-simple : (n : ℕ) → list_all is_simple (replicate n 32) ≡ true
 blanks-simple zero = refl
 blanks-simple (suc n) = blanks-simple n
 
-columns-blanks : (n : ℕ) → text_width (replicate n 32) ≡ n
+pub columns-blanks : (n : ℕ) → text_width (replicate n 32) ≡ n
 unfolding str_width
 columns-blanks n = ap (λ (r : Reading). r.0) (read-blanks n 0) ∙ (let e : 0 + n ≡ n = omega arith in e)
 
