@@ -35,8 +35,8 @@ carried-stays places rows columns m keeps =
 
     stays : (a : Position) (s : Size) → get kept a ≡ Some s → Carries places (rectangle a s) (rectangle a s)
     stays a s h =
-        let inside = fits.inside a s h in
-        let takes : (p : Position) → In (rectangle a s) p → Takes places p p = λ p i. keeps.stays p (omega (arith, i.bottom, inside.0)) (omega (arith, i.right, inside.1)) in
+        let inside = (fits.each (rectangle a s) h).inside in
+        let takes : (p : Position) → In (rectangle a s) p → Takes places p p = λ p i. keeps.stays p (omega (arith, i.bottom, inside.bottom)) (omega (arith, i.right, inside.right)) in
         record { all = λ p i. (p, takes p i); only = λ p q t i. subst (λ (x : Position). In (rectangle a s) x) (sym (keeps.alone p q t)) i; from = λ p i. (p, i, takes p i) }
 
     comes : (b : Position) (t : Size) → get kept b ≡ Some t → (a : Position) × (s : Size) × (get kept a ≡ Some s) × Carries places (rectangle a s) (rectangle b t) × HasArea (rectangle b t)

@@ -1,8 +1,11 @@
 -- A list of the images of rectangles, as it grows and once it is sorted.
-use Rattle.tabled_carry.proofs.Common.{[], ◌&&◌, ◌++◌, ◌+◌, ◌<◌, ◌==◌, ◌∙◌, ◌∷◌, ◌≡◌, ◌≤◌, ◌⊎◌, AreAnchors, AreSorted, Bool, Carries, Equal, Fits, Greater, HasArea, In, IsImage, IsPermutation, IsSortedByKey, Less, List, Member, Ordering, Places, Position, Rectangle, Size, Some, T, add-one, and_from, and_parts, any-from, any-member, ap, ap₂, arith, below-member, carries, cases_Bool, common_steps, cond, earlier, eq-eqb, eqb-true, false, find-member, get, get-map_of, get_or, halves, holds-from, image, inl, inr, is_lt, length, list_any, list_any-IsPermutation, map_of, member-either, member-left, member-right, ordering_reverse, position_cmp, positions_exact, positions_total, rectangle, refl, same_place, same_place-self, same_place-true, sized, sorted-find, subst, suc, sum_by, sum_by-IsPermutation, sym, take, take_more, true, zero, ℕ, span_at}
+use Rattle.tabled_carry.proofs.Common.{[], ◌&&◌, ◌++◌, ◌+◌, ◌<◌, ◌==◌, ◌∙◌, ◌∷◌, ◌≡◌, ◌≤◌, ◌⊎◌, AreAnchors, AreSorted, Bool, Carries, Equal, Fits, FitsAmong, Greater, HasArea, In, IsImage, IsPermutation, IsSortedByKey, Less, LiesInside, List, Member, Ordering, Places, Position, Rectangle, Size, Some, T, add-one, and_from, and_parts, any-from, any-member, ap, ap₂, arith, before_other, below-member, carries, cases_Bool, common_steps, cond, before-less, eq-eqb, eqb-true, false, find-member, get, get-map_of, get_or, halves, holds-from, image, inl, inr, is_lt, length, list_any, list_any-IsPermutation, map_of, member-either, member-left, member-right, ordering_reverse, position_cmp, positions_exact, positions_total, rectangle, refl, same_place, same_place-self, same_place-true, sized, sorted-find, subst, suc, sum_by, sum_by-IsPermutation, sym, take, take_more, true, zero, ℕ, span_at}
 use Rattle.std.proofs.lemmas.List.Sums.{sum_by-append, sum_by-cons}
 use Rattle.tabled_grid.proofs.MergedAnchors.{below_more}
 use Rattle.tabled_carry.proofs.RectanglesCarried.{carries_more, first_in, image_is, image_one, takes_one, carries_one, sizes_of}
+use Rattle.tabled_grid.proofs.Members.{member-moved}
+use Rattle.tabled_grid.proofs.SortedEntries.{both, is_less}
+use Rattle.std.proofs.lemmas.List.Sorted.{IsPermutation-sym}
 
 -- how many of an anchor are at a place
 abbrev pub at_place : Position → Rectangle → ℕ
@@ -23,6 +26,11 @@ none_at q (f ∷ fs) apart = sum_by-cons (at_place q) f fs ∙ ap₂ (λ a b. a 
     first (inl t) = absurd (apart f (inl refl) (same_place-true q f.first t))
     first (inr h) = ap (λ b. cond b 1 0) h
 
+-- a list of one has that one alone
+only : (x y : Rectangle) → Member x (y ∷ []) → x ≡ y
+only x y (inl same) = same
+only x y (inr none) = absurd none
+
 at_here : (f : Rectangle) → at_place f.first f ≡ 1
 at_here f = ap (λ b. cond b 1 0) (same_place-self f.first)
 
@@ -32,96 +40,57 @@ module _ (places : Places) (done images : List Rectangle) (e : Rectangle) where
   images-more f i carries full one apart = record { comes = comes; goes = goes; once = once }
     where
       comes : (g : Rectangle) → Member g (images ++ f ∷ []) → (d : Rectangle) × Member d (done ++ e ∷ []) × Carries places d g × HasArea g
-      comes g m = by (member-either g images (f ∷ []) m)
-        where
-          by : Member g images ⊎ Member g (f ∷ []) → (d : Rectangle) × Member d (done ++ e ∷ []) × Carries places d g × HasArea g
-          by (inl h) = let c = i.comes g h in (c.0, member-left c.0 done (e ∷ []) c.1, c.2, c.3)
-          by (inr (inl same)) = (e, member-right e done (e ∷ []) (inl refl), subst (λ x. Carries places e x) (sym same) carries, subst HasArea (sym same) full)
-          by (inr (inr none)) = absurd none
+      comes g m = elim (member-either g images (f ∷ []) m) [
+        | inl h ↦ let c = i.comes g h in (c.0, member-left c.0 done (e ∷ []) c.1, c.2, c.3)
+        | inr last ↦ let same = only g f last in (e, member-right e done (e ∷ []) (inl refl), subst (λ x. Carries places e x) (sym same) carries, subst HasArea (sym same) full)
+      ]
 
       goes : (d g : Rectangle) → Member d (done ++ e ∷ []) → Carries places d g → HasArea g → Member g (images ++ f ∷ [])
-      goes d g m c h = by (member-either d done (e ∷ []) m)
-        where
-          by : Member d done ⊎ Member d (e ∷ []) → Member g (images ++ f ∷ [])
-          by (inl old) = member-left g images (f ∷ []) (i.goes d g old c h)
-          by (inr (inl same)) = member-right g images (f ∷ []) (inl (sym (one g (subst (λ x. Carries places x g) same c) h)))
-          by (inr (inr none)) = absurd none
+      goes d g m c h = elim (member-either d done (e ∷ []) m) [
+        | inl old ↦ member-left g images (f ∷ []) (i.goes d g old c h)
+        | inr last ↦ member-right g images (f ∷ []) (inl (sym (one g (subst (λ x. Carries places x g) (only d e last) c) h)))
+      ]
 
       once : (q : Position) → sum_by (at_place q) (images ++ f ∷ []) ≤ 1
-      once q = by (cases_Bool (same_place q f.first))
-        where
-          sum : sum_by (at_place q) (images ++ f ∷ []) ≡ sum_by (at_place q) images + at_place q f
-          sum = let a = sum_by-append (at_place q) images (f ∷ []) in let b : sum_by (at_place q) (f ∷ []) ≡ at_place q f + 0 = sum_by-cons (at_place q) f [] in omega (arith, a, b)
-
-          by : (same_place q f.first ≡ true) ⊎ (same_place q f.first ≡ false) → sum_by (at_place q) (images ++ f ∷ []) ≤ 1
-          by (inl t) =
-              let at = same_place-true q f.first t in
-              let zero_before = none_at q images (λ g m same. apart g m (sym at ∙ same)) in
-              let last : at_place q f ≡ 1 = ap (λ b. cond b 1 0) t in
-              omega (arith, sum, zero_before, last)
-          by (inr h) = let last : at_place q f ≡ 0 = ap (λ b. cond b 1 0) h in omega (arith, sum, last, i.once q)
+      once q =
+          let sum = sum_by-append (at_place q) images (f ∷ []) in
+          let more : sum_by (at_place q) (f ∷ []) ≡ at_place q f + 0 = sum_by-cons (at_place q) f [] in
+          elim (cases_Bool (same_place q f.first)) [
+            | inl t ↦
+                let at = same_place-true q f.first t in
+                let zero_before = none_at q images (λ g m same. apart g m (sym at ∙ same)) in
+                let last : at_place q f ≡ 1 = ap (λ b. cond b 1 0) t in
+                omega (arith, sum, more, zero_before, last)
+            | inr h ↦ let last : at_place q f ≡ 0 = ap (λ b. cond b 1 0) h in omega (arith, sum, more, last, i.once q)
+          ]
 
   -- a rectangle more, which has none
   pub images-none : Images places done images → ((g : Rectangle) → Carries places e g → HasArea g → ⊥) → Images places (done ++ e ∷ []) images
   images-none i none = record { comes = λ g m. let c = i.comes g m in (c.0, member-left c.0 done (e ∷ []) c.1, c.2, c.3); goes = goes; once = i.once }
     where
       goes : (d g : Rectangle) → Member d (done ++ e ∷ []) → Carries places d g → HasArea g → Member g images
-      goes d g m c h = by (member-either d done (e ∷ []) m)
-        where
-          by : Member d done ⊎ Member d (e ∷ []) → Member g images
-          by (inl old) = i.goes d g old c h
-          by (inr (inl same)) = absurd (none g (subst (λ x. Carries places x g) same c) h)
-          by (inr (inr no_more)) = absurd no_more
-
--- the entry of an anchor
-same_entry : Rectangle → Rectangle → Bool
-same_entry f g = same_place f.first g.first && ((f.size.height == g.size.height) && (f.size.width == g.size.width))
-
-same_entry-true : (f g : Rectangle) → same_entry f g ≡ true → f ≡ g
-unfolding same_entry
-same_entry-true f g t =
-    let parts = and_parts (same_place f.first g.first) ((f.size.height == g.size.height) && (f.size.width == g.size.width)) t in
-    let size = and_parts (f.size.height == g.size.height) (f.size.width == g.size.width) parts.1 in
-    ap₂ rectangle (same_place-true f.first g.first parts.0) (ap₂ sized (eqb-true _ _ size.0) (eqb-true _ _ size.1))
-
-same_entry-self : (f : Rectangle) → same_entry f f ≡ true
-unfolding same_entry
-same_entry-self f = and_from _ _ (same_place-self f.first) (and_from _ _ (eq-eqb f.size.height f.size.height refl) (eq-eqb f.size.width f.size.width refl))
-
--- what is sorted has the same members
-permuted : (f : Rectangle) (xs ys : List Rectangle) → list_any (same_entry f) xs ≡ list_any (same_entry f) ys → Member f xs → Member f ys
-permuted f xs ys same m =
-    let found = any-member (same_entry f) ys (sym same ∙ any-from (same_entry f) f xs m (same_entry-self f)) in
-    subst (λ g. Member g ys) (sym (same_entry-true f found.0 found.2)) found.1
+      goes d g m c h = elim (member-either d done (e ∷ []) m) [ inl old ↦ i.goes d g old c h | inr last ↦ absurd (none g (subst (λ x. Carries places x g) (only d e last) c) h) ]
 
 pub images-sorted : (places : Places) (done xs ys : List Rectangle) → IsPermutation xs ys → Images places done xs → Images places done ys
 images-sorted places done xs ys p i = record {
-  comes = λ f m. i.comes f (permuted f ys xs (sym (list_any-IsPermutation (same_entry f) xs ys p)) m);
-  goes = λ e f m c h. permuted f xs ys (list_any-IsPermutation (same_entry f) xs ys p) (i.goes e f m c h);
+  comes = λ f m. i.comes f (member-moved f ys xs (IsPermutation-sym xs ys p) m);
+  goes = λ e f m c h. member-moved f xs ys p (i.goes e f m c h);
   once = λ q. let same = sum_by-IsPermutation (at_place q) xs ys p in omega (arith, same, i.once q);
 }
-
-both : (a b : Bool) → a ≡ true → T b → T (a && b)
-both true b h t = t
-both false b h t = cc
 
 -- anchors that do not fall, each once, rise
 pub rising : (ys : List Rectangle) → ((k : ℕ) (d : Rectangle) → k + 1 < length ys → is_lt (position_cmp (get_or ys (suc k) d).first (get_or ys k d).first) ≡ false) → ((q : Position) → sum_by (at_place q) ys ≤ 1) → AreSorted ys
 rising [] up once = tt
 rising (e ∷ []) up once = tt
-rising (e ∷ f ∷ es) up once = by (position_cmp e.first f.first) refl (rising (f ∷ es) (λ k d h. up (suc k) d (omega arith)) (λ q. omega (arith, once q, sum_by-cons (at_place q) e (f ∷ es))))
+rising (e ∷ f ∷ es) up once = compared (position_cmp e.first f.first) refl (rising (f ∷ es) (λ k d h. up (suc k) d (omega arith)) (λ q. omega (arith, once q, sum_by-cons (at_place q) e (f ∷ es))))
   where
-    together : (a b : Bool) → T a → T b → T (a && b)
-    together true b h t = t
-    together false b h t = absurd h
-
-    by : (o : Ordering) → position_cmp e.first f.first ≡ o → AreSorted (f ∷ es) → AreSorted (e ∷ f ∷ es)
-    by Less is rest = together _ _ (both _ _ (ap is_lt is) (below_more e.first f.first es is (halves _ _ rest).0)) rest
-    by Equal is rest =
+    compared : (o : Ordering) → position_cmp e.first f.first ≡ o → AreSorted (f ∷ es) → AreSorted (e ∷ f ∷ es)
+    compared Less is rest = both _ _ (both _ _ (is_less _ is) (below_more e.first f.first es is (halves _ _ rest).0)) rest
+    compared Equal is rest =
         let same = positions_exact e.first f.first is in
         let two : at_place f.first e ≡ 1 = subst (λ p. at_place p e ≡ 1) same (at_here e) in
         absurd (omega (arith, once f.first, sum_by-cons (at_place f.first) e (f ∷ es), sum_by-cons (at_place f.first) f es, two, at_here f))
-    by Greater is rest =
+    compared Greater is rest =
         let falls : position_cmp f.first e.first ≡ Less = positions_total.antisymm f.first e.first ∙ ap ordering_reverse is in
         let never : true ≡ false = sym (ap is_lt falls) ∙ up 0 e (omega arith) in cc
 
@@ -170,9 +139,6 @@ front-before e (suc i) (f ∷ es) d up here (inl same) =
     subst (λ (x : Rectangle). position_cmp x.first (get_or es i d).first ≡ Less) (sym same) less_than
 front-before e (suc i) (f ∷ es) d up here (inr m) = front-before e i es d (halves _ _ up).1 (omega arith) m
 
-never_before : (p q : Position) → position_cmp p q ≡ Less → p ≡ q → ⊥
-never_before p q h same = grind (arith, common_steps, earlier)
-
 -- the next rectangle of a list
 module _ (places : Places) (es xs : List Rectangle) (i rows columns : ℕ) (d : Rectangle) (valid : AreAnchors es) (fits : Fits (map_of es) rows columns) (here : i < length es) where
   got : (e : Rectangle) → Member e es → get (map_of es) e.first ≡ Some e.size
@@ -181,8 +147,11 @@ module _ (places : Places) (es xs : List Rectangle) (i rows columns : ℕ) (d : 
   next : Rectangle
   next = get_or es i d
 
-  pub next-inside : ((get_or es i d).first.row + (get_or es i d).size.height ≤ rows) × ((get_or es i d).first.col + (get_or es i d).size.width ≤ columns)
-  next-inside = fits.inside (get_or es i d).first (get_or es i d).size (got (get_or es i d) (at-member es i d here))
+  next-fits : FitsAmong (map_of es) rows columns (get_or es i d)
+  next-fits = fits.each (get_or es i d) (got (get_or es i d) (at-member es i d here))
+
+  pub next-inside : LiesInside rows columns (get_or es i d)
+  next-inside = next-fits.inside
 
   pub next-some : (f : Rectangle) → Images places (take i es) xs → Carries places (get_or es i d) f → HasArea f → Images places (take (i + 1) es) (xs ++ f ∷ [])
   next-some f im c full =
@@ -195,8 +164,8 @@ module _ (places : Places) (es xs : List Rectangle) (i rows columns : ℕ) (d : 
           let q = c.from f.first (first_in f full) in
           let r = o.2.from f.first (subst (λ (p : Position). In g p) (sym same) (first_in g o.3)) in
           let one = takes_one places f.first q.0 r.0 q.2 r.2 in
-          let anchor = fits.apart o.0.first (get_or es i d).first o.0.size (get_or es i d).size q.0 (got o.0 (front-member o.0 i es o.1)) (got (get_or es i d) (at-member es i d here)) (holds-from _ _ (subst (λ (p : Position). In o.0 p) (sym one) r.1)) (holds-from _ _ q.1) in
-          never_before o.0.first (get_or es i d).first (front-before o.0 i es d valid.sorted here o.1) anchor
+          let anchor = next-fits.alone o.0 q.0 (got o.0 (front-member o.0 i es o.1)) q.1 (subst (λ (p : Position). In o.0 p) (sym one) r.1) in
+          before_other o.0.first (get_or es i d).first (before-less _ _ (front-before o.0 i es d valid.sorted here o.1)) (sym anchor)
 
   pub next-none : Images places (take i es) xs → ((f : Rectangle) → Carries places (get_or es i d) f → HasArea f → ⊥) → Images places (take (i + 1) es) xs
   next-none im none = subst (λ (done : List Rectangle). Images places done xs) (sym (take_more es i d here)) (images-none places (take i es) xs (get_or es i d) im none)

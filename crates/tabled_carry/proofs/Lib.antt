@@ -2,7 +2,6 @@ pub mod Back
 pub mod CarriedFits
 pub mod Carrying
 pub mod Common
-pub mod Free
 pub mod InPlace
 pub mod Pigeonhole
 pub mod PutIn

@@ -11,20 +11,10 @@ Once (x ∷ xs) = (Member x xs → ⊥) × Once xs
 -- a list without a member of it
 without : {A : Type 0} (x : A) (ys : List A) → Member x ys → (zs : List A) × (length ys ≡ length zs + 1) × ((y : A) → Member y ys → (y ≡ x) ⊎ Member y zs)
 without x [] none = absurd none
-without x (y ∷ ys) (inl e) = (ys, omega arith, by)
-  where
-    by : (z : _) → Member z (y ∷ ys) → (z ≡ x) ⊎ Member z ys
-    by z (inl same) = inl (same ∙ sym e)
-    by z (inr m) = inr m
-without x (y ∷ ys) (inr m) = let rest = without x ys m in (y ∷ rest.0, omega (arith, rest.1), by rest.0 rest.2)
-  where
-    by : (zs : List _) → ((z : _) → Member z ys → (z ≡ x) ⊎ Member z zs) → (z : _) → Member z (y ∷ ys) → (z ≡ x) ⊎ Member z (y ∷ zs)
-    by zs each z (inl same) = inr (inl same)
-    by zs each z (inr h) = at (each z h)
-      where
-        at : (z ≡ x) ⊎ Member z zs → (z ≡ x) ⊎ Member z (y ∷ zs)
-        at (inl same) = inl same
-        at (inr k) = inr (inr k)
+without x (y ∷ ys) (inl e) = (ys, omega arith, λ z m. elim m [ inl same ↦ inl (same ∙ sym e) | inr h ↦ inr h ])
+without x (y ∷ ys) (inr m) =
+    let rest = without x ys m in
+    (y ∷ rest.0, omega (arith, rest.1), λ z n. elim n [ inl same ↦ inr (inl same) | inr h ↦ elim (rest.2 z h) [ inl same ↦ inl same | inr k ↦ inr (inr k) ] ])
 
 module _ {A B : Type 0} (R : A → B → Type 0) (one : (x y : A) (z : B) → R x z → R y z → x ≡ y) where
   -- the other list is no shorter, and where it is no longer each of its members is in a pair
@@ -34,30 +24,22 @@ module _ {A B : Type 0} (R : A → B → Type 0) (one : (x y : A) (z : B) → R 
   paired (x ∷ xs) ys once goes =
       let to = goes x (inl refl) in
       let rest = without to.0 ys to.1 in
-      let go = paired xs rest.0 once.1 (λ y m. other rest.0 rest.2 y m (goes y (inr m))) in
-      (omega (arith, rest.1, go.0), λ few y m. by rest.0 (go.1 (omega (arith, rest.1, few))) y (rest.2 y m))
+      let shorter = paired xs rest.0 once.1 (λ y m. other rest.0 rest.2 y m (goes y (inr m))) in
+      (omega (arith, rest.1, shorter.0), λ few y m. of_pair rest.0 (shorter.1 (omega (arith, rest.1, few))) y (rest.2 y m))
     where
       to : (y : B) × Member y ys × R x y
       to = goes x (inl refl)
 
       other : (zs : List B) → ((z : B) → Member z ys → (z ≡ to.0) ⊎ Member z zs) → (y : A) → Member y xs → (z : B) × Member z ys × R y z → (z : B) × Member z zs × R y z
-      other zs left y m (z, h, r) = at (left z h)
-        where
-          at : (z ≡ to.0) ⊎ Member z zs → (z : B) × Member z zs × R y z
-          at (inl same) = absurd (once.0 (subst (λ a. Member a xs) (one y x to.0 (subst (λ b. R y b) same r) to.2) m))
-          at (inr k) = (z, k, r)
+      other zs left y m (z, h, r) = elim (left z h) [ inl same ↦ absurd (once.0 (subst (λ a. Member a xs) (one y x to.0 (subst (λ b. R y b) same r) to.2) m)) | inr k ↦ (z, k, r) ]
 
-      by : (zs : List B) → ((z : B) → Member z zs → (y : A) × Member y xs × R y z) → (y : B) → (y ≡ to.0) ⊎ Member y zs → (a : A) × Member a (x ∷ xs) × R a y
-      by zs from y (inl same) = (x, inl refl, subst (λ b. R x b) (sym same) to.2)
-      by zs from y (inr m) = let p = from y m in (p.0, inr p.1, p.2)
+      of_pair : (zs : List B) → ((z : B) → Member z zs → (y : A) × Member y xs × R y z) → (y : B) → (y ≡ to.0) ⊎ Member y zs → (a : A) × Member a (x ∷ xs) × R a y
+      of_pair zs from y (inl same) = (x, inl refl, subst (λ b. R x b) (sym same) to.2)
+      of_pair zs from y (inr m) = let p = from y m in (p.0, inr p.1, p.2)
 
 once-append : {A : Type 0} (xs ys : List A) → Once xs → Once ys → ((x : A) → Member x xs → Member x ys → ⊥) → Once (xs ++ ys)
 once-append [] ys a b apart = b
-once-append (x ∷ xs) ys a b apart = (λ m. by (member-either x xs ys m), once-append xs ys a.1 b (λ y m. apart y (inr m)))
-  where
-    by : Member x xs ⊎ Member x ys → ⊥
-    by (inl m) = a.0 m
-    by (inr m) = apart x (inl refl) m
+once-append (x ∷ xs) ys a b apart = (λ m. elim (member-either x xs ys m) [ inl h ↦ a.0 h | inr h ↦ apart x (inl refl) h ], once-append xs ys a.1 b (λ y m. apart y (inr m)))
 
 once-row : (i a n : ℕ) → Once (map (place i) (range_with_len a n))
 once-row i a zero = tt

@@ -14,14 +14,14 @@ none_crosses_the_first axis m = none_cross axis (rectangles m)
 
 -- without rows nothing is put in, and there are no merged cells
 pub fits_beside_rows : (m : SpanMap) (j rows columns : ℕ) → is_crossed Columns j m ≡ false → Fits m rows columns → Fits (shifted Columns j m) rows (cond (nat_eq rows 0) columns (columns + 1))
-fits_beside_rows m j rows columns free fits = either (cases_Bool (nat_eq rows 0))
+fits_beside_rows m j rows columns free fits = elim (cases_Bool (nat_eq rows 0)) [
+  | inl t ↦ rw t (record { each = λ e has. absurd (none (eqb-true _ _ t) e has) })
+  | inr f ↦ rw f wider
+]
   where
     wider : Fits (shifted Columns j m) rows (columns + 1)
     wider = fits_beside m j rows columns free fits
 
-    inside : rows ≡ 0 → (a : Position) (size : Size) → get (shifted Columns j m) a ≡ Some size → (a.row + size.height ≤ rows) × (a.col + size.width ≤ columns)
-    inside none a size has = absurd (omega (arith, none, (span_at (shifted Columns j m) a size has).height, (wider.inside a size has).0))
-
-    either : (nat_eq rows 0 ≡ true) ⊎ (nat_eq rows 0 ≡ false) → Fits (shifted Columns j m) rows (cond (nat_eq rows 0) columns (columns + 1))
-    either (inl t) = rw t (record { inside = inside (eqb-true _ _ t); apart = wider.apart })
-    either (inr f) = rw f wider
+    -- a rectangle would have rows
+    none : rows ≡ 0 → (e : Rectangle) → get (shifted Columns j m) e.first ≡ Some e.size → ⊥
+    none rowless e has = omega (arith, rowless, (span_at (shifted Columns j m) e.first e.size has).height, (wider.each e has).inside.bottom)

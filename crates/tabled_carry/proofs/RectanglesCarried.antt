@@ -1,5 +1,5 @@
 -- Rectangles carried along fit the new table, and the map of them is the image.
-use Rattle.tabled_carry.proofs.Common.{[], ◌+◌, ◌-◌, ◌<◌, ◌∙◌, ◌∷◌, ◌≡◌, ◌≤◌, ◌⊎◌, AllByRecursion, Bool, Carries, Fits, HasArea, HasSize, In, IsImage, IsSpanSize, List, Member, None, Option, Places, Position, Rectangle, Size, Some, SpanMap, Takes, alike, all-from, all-member, and_from, and_parts, any-from, any-member, ap, ap₂, arith, block, block-from, block-member, carries, cases_lt, cells_in, common_steps, false, filter-from, filter-member, find-member, find_at, flat_map-from, flat_map-member, get, get-from_rectangles, get-rectangles, holds, holds-from, holds-true, image, images, inl, inr, list_all, list_any, map, map-from, map-member, member-find, old_place_passes, place, rectangle, rectangles, rectangles_inside, rectangles_sorted, refl, same_Some, same_map, same_place, same_place-self, same_place-true, sized, sorted-find, span_at, subst, sym, true, ℕ}
+use Rattle.tabled_carry.proofs.Common.{[], ◌+◌, ◌-◌, ◌<◌, ◌∙◌, ◌∷◌, ◌≡◌, ◌≤◌, ◌⊎◌, AllByRecursion, Bool, Carries, Fits, HasArea, HasSize, In, IsImage, IsSpan, LiesInside, List, Member, None, Option, Places, Position, Rectangle, Size, Some, SpanMap, Takes, alike, all-from, all-member, and_from, and_parts, any-from, any-member, ap, ap₂, arith, block, block-from, block-member, carries, cases_lt, cells_in, common_steps, false, filter-from, filter-member, find-member, find_at, flat_map-from, flat_map-member, get, get-from_rectangles, get-rectangles, holds, holds-from, holds-true, image, images, inl, inr, list_all, list_any, map, map-from, map-member, member-find, old_place_passes, place, rectangle, rectangles, rectangles_inside, rectangles_sorted, refl, same_Some, same_map, same_place, same_place-self, same_place-true, sized, sorted-find, span_at, subst, sym, true, ℕ}
 
 -- the first and the last cell of a rectangle
 abbrev last_of : Rectangle → Position
@@ -24,7 +24,7 @@ same_cells f g full full' to back =
     let width : f.size.width ≡ g.size.width = omega (arith, col, c.right, d.right, full.width, full'.width) in
     ap₂ rectangle (ap₂ place row col) (ap₂ sized height width)
 
-pub sizes_of : (ys : List Rectangle) → ((f : Rectangle) → Member f ys → IsSpanSize f.size) → AllByRecursion HasSize ys
+pub sizes_of : (ys : List Rectangle) → ((f : Rectangle) → Member f ys → IsSpan f.size) → AllByRecursion HasSize ys
 sizes_of [] each = tt
 sizes_of (f ∷ ys) each = (each f (inl refl), sizes_of ys (λ g m. each g (inr m)))
 
@@ -38,8 +38,8 @@ module _ (places : Places) where
   carries_one e f g full full' c d = same_cells f g full full' (λ p h. let t = c.from p h in d.only p t.0 t.2 t.1) (λ p h. let t = d.from p h in c.only p t.0 t.2 t.1)
 
   -- more than one cell goes to more than one
-  pub carries_more : (e f : Rectangle) → HasArea f → Carries places e f → IsSpanSize e.size → IsSpanSize f.size
-  carries_more e f full c size = record { height = full.height; width = full.width; merges = by (cases_lt 1 f.size.height) (cases_lt 1 f.size.width) }
+  pub carries_more : (e f : Rectangle) → HasArea f → Carries places e f → IsSpan e.size → IsSpan f.size
+  carries_more e f full c size = record { height = full.height; width = full.width; merges = elim (cases_lt 1 f.size.height) [ inl tall ↦ inl tall | inr low ↦ elim (cases_lt 1 f.size.width) [ inl wide ↦ inr wide | inr thin ↦ absurd (never low thin size.merges) ] ] }
     where
       first : In e e.first
       first = first_in e (record { height = size.height; width = size.width })
@@ -63,45 +63,37 @@ module _ (places : Places) where
           let same = alone low thin (place e.first.row (e.first.col + 1)) (record { top = omega arith; bottom = omega (arith, size.height); left = omega arith; right = omega (arith, wide) }) in
           omega (arith, ap (λ (x : Position). x.col) same)
 
-      by : (1 < f.size.height) ⊎ (f.size.height ≤ 1) → (1 < f.size.width) ⊎ (f.size.width ≤ 1) → (1 < f.size.height) ⊎ (1 < f.size.width)
-      by (inl tall) w = inl tall
-      by (inr low) (inl wide) = inr wide
-      by (inr low) (inr thin) = absurd (never low thin size.merges)
-
   -- an image of what fits, fits
   pub image_fits : (old new : SpanMap) (rows columns : ℕ) → IsImage places old new → Fits old rows columns → Fits new places.rows places.columns
-  image_fits old new rows columns is fits = record { inside = inside; apart = apart }
+  image_fits old new rows columns is fits = record { each = λ e has. record { inside = inside e has; alone = λ f p had i j. meet e.first f.first p e.size f.size (is.comes e.first e.size has) (is.comes f.first f.size had) i j } }
     where
-      inside : (b : Position) (t : Size) → get new b ≡ Some t → (b.row + t.height ≤ places.rows) × (b.col + t.width ≤ places.columns)
-      inside b t has =
-          let c = is.comes b t has in
-          let last = (c.3.from (last_of (rectangle b t)) (last_in (rectangle b t) c.4)).2 in
-          (omega (arith, last.row, c.4.height), omega (arith, last.col, c.4.width))
+      inside : (f : Rectangle) → get new f.first ≡ Some f.size → LiesInside places.rows places.columns f
+      inside f has =
+          let c = is.comes f.first f.size has in
+          let last = (c.3.from (last_of f) (last_in f c.4)).2 in
+          record { bottom = omega (arith, last.row, c.4.height); right = omega (arith, last.col, c.4.width) }
 
       meet : (a b p : Position) (s t : Size) (c : (k : Position) × (z : Size) × (get old k ≡ Some z) × Carries places (rectangle k z) (rectangle a s) × HasArea (rectangle a s)) (d : (k : Position) × (z : Size) × (get old k ≡ Some z) × Carries places (rectangle k z) (rectangle b t) × HasArea (rectangle b t)) → In (rectangle a s) p → In (rectangle b t) p → a ≡ b
       meet a b p s t c d ha hb =
           let q = c.3.from p ha in
           let r = d.3.from p hb in
           let one = takes_one p q.0 r.0 q.2 r.2 in
-          let anchor = fits.apart c.0 d.0 c.1 d.1 q.0 c.2 d.2 (holds-from _ _ q.1) (holds-from _ _ (subst (λ x. In (rectangle d.0 d.1) x) (sym one) r.1)) in
+          let anchor = (fits.each (rectangle c.0 c.1) c.2).alone (rectangle d.0 d.1) q.0 d.2 q.1 (subst (λ x. In (rectangle d.0 d.1) x) (sym one) r.1) in
           let size = same_Some _ _ (sym c.2 ∙ ap (get old) anchor ∙ d.2) in
           let other : Carries places (rectangle c.0 c.1) (rectangle b t) = subst (λ e. Carries places e (rectangle b t)) (ap₂ rectangle (sym anchor) (sym size)) d.3 in
           ap (λ (f : Rectangle). f.first) (carries_one (rectangle c.0 c.1) (rectangle a s) (rectangle b t) c.4 d.4 c.3 other)
 
-      apart : (a b : Position) (s t : Size) (p : Position) → get new a ≡ Some s → get new b ≡ Some t → holds (rectangle a s) p ≡ true → holds (rectangle b t) p ≡ true → a ≡ b
-      apart a b s t p ha hb ia ib = meet a b p s t (is.comes a s ha) (is.comes b t hb) (holds-true _ _ ia) (holds-true _ _ ib)
-
   -- a map has one image
   pub image_one : (old new other : SpanMap) → IsImage places old new → IsImage places old other → new ≡ other
-  image_one old new other is also = same_map new other (λ q. by q (get new q) refl (get other q) refl)
+  image_one old new other is also = same_map new other (λ q. same q (get new q) refl (get other q) refl)
     where
       over : (m n : SpanMap) → IsImage places old m → IsImage places old n → (b : Position) (t : Size) → get m b ≡ Some t → get n b ≡ Some t
       over m n i j b t h = let c = i.comes b t h in j.goes c.0 b c.1 t c.2 c.3 c.4
 
-      by : (b : Position) (x : Option Size) → get new b ≡ x → (y : Option Size) → get other b ≡ y → get new b ≡ get other b
-      by b (Some t) h y k = h ∙ sym (over new other is also b t h)
-      by b None h (Some t) k = over other new also is b t k ∙ sym k
-      by b None h None k = h ∙ sym k
+      same : (b : Position) (x : Option Size) → get new b ≡ x → (y : Option Size) → get other b ≡ y → get new b ≡ get other b
+      same b (Some t) h y k = h ∙ sym (over new other is also b t h)
+      same b None h (Some t) k = over other new also is b t k ∙ sym k
+      same b None h None k = h ∙ sym k
 
   -- the test of an old place
   passed : (test : Position → Bool) (o : Option Position) → old_place_passes test o ≡ true → (q : Position) × (o ≡ Some q) × (test q ≡ true)
@@ -236,7 +228,7 @@ module _ (places : Places) where
           let q = c.from b (first_in (rectangle b t) full) in
           let r = d.3.from b (first_in (rectangle b found.0) d.4) in
           let one = takes_one b q.0 r.0 q.2 r.2 in
-          let anchor = fits.apart a d.0 s d.1 q.0 has d.2 (holds-from _ _ q.1) (holds-from _ _ (subst (λ x. In (rectangle d.0 d.1) x) (sym one) r.1)) in
+          let anchor = (fits.each (rectangle a s) has).alone (rectangle d.0 d.1) q.0 d.2 q.1 (subst (λ x. In (rectangle d.0 d.1) x) (sym one) r.1) in
           let size = same_Some _ _ (sym has ∙ ap (get m) anchor ∙ d.2) in
           let other : Carries places (rectangle a s) (rectangle b found.0) = subst (λ e. Carries places e (rectangle b found.0)) (ap₂ rectangle (sym anchor) (sym size)) d.3 in
           got ∙ ap (λ (f : Rectangle). Some f.size) (carries_one (rectangle a s) (rectangle b found.0) (rectangle b t) d.4 full other c)

@@ -1,26 +1,17 @@
 -- Going through the cells of a rectangle, row by row.
-use Rattle.tabled_carry.proofs.Common.{◌*◌, ◌+◌, ◌-◌, ◌<◌, ◌^◌, ◌∙◌, ◌≡◌, ◌≤◌, ◌⊎◌, Around, Between, Carries, HasArea, In, Places, Position, Rectangle, Takes, ap, ap₂, arith, cells_in, common_steps, holds, inl, inr, length, max, min, place, rectangle, sized, subst, sym, ℕ}
+use Rattle.tabled_carry.proofs.Common.{◌*◌, ◌+◌, ◌-◌, ◌<◌, ◌^◌, ◌∙◌, ◌≡◌, ◌≤◌, ◌⊎◌, Around, Between, Carries, HasArea, In, IsBefore, Places, Position, Rectangle, Takes, ap, ap₂, arith, before_or_at, cells_in, common_steps, holds, inl, inr, length, max, min, place, rectangle, sized, subst, sym, ℕ}
 use Rattle.tabled_carry.proofs.Pigeonhole.{Once, length-block, once-block, paired}
 use Rattle.tabled_carry.proofs.RectanglesCarried.{cell_from, cell_in, same_cells, takes_one}
 
--- a place comes before column j of row i
-abbrev pub Before : ℕ → ℕ → Position → Type 0
-Before i j p = (p.row < i) ⊎ ((p.row ≡ i) × (p.col < j))
-
--- one column further
-pub before-more : (i j : ℕ) (p : Position) → Before i (j + 1) p → Before i j p ⊎ (p ≡ place i j)
-before-more i j p (inl h) = inl (inl h)
-before-more i j p (inr h) = grind (arith, common_steps)
-
-pub walked : (e : Rectangle) (i j : ℕ) (q : Position) → place i j ≡ q → (r : Position) → In e r × Before i (j + 1) r → (In e r × Before i j r) ⊎ (r ≡ q)
-walked e i j q at r h = grind (arith, common_steps, before-more)
+pub walked : (e : Rectangle) (i j : ℕ) (q : Position) → place i j ≡ q → (r : Position) → In e r × IsBefore r (place i (j + 1)) → (In e r × IsBefore r (place i j)) ⊎ (r ≡ q)
+walked e i j q at r h = grind (arith, common_steps, before_or_at)
 
 -- no cell comes before the first one
-none_before : (e : Rectangle) (i j : ℕ) → i ≡ e.first.row → j ≡ e.first.col → (r : Position) → In e r → Before i j r → ⊥
+none_before : (e : Rectangle) (i j : ℕ) → i ≡ e.first.row → j ≡ e.first.col → (r : Position) → In e r → IsBefore r (place i j) → ⊥
 none_before e i j row col r h (inl b) = omega (arith, h.top, row, b)
 none_before e i j row col r h (inr b) = omega (arith, h.left, col, b.1)
 
-pub first_walked : (e : Rectangle) (i j : ℕ) (q : Position) → place i j ≡ q → (i ≡ e.first.row) × (j ≡ e.first.col) → (r : Position) → In e r × Before i (j + 1) r → r ≡ q
+pub first_walked : (e : Rectangle) (i j : ℕ) (q : Position) → place i j ≡ q → (i ≡ e.first.row) × (j ≡ e.first.col) → (r : Position) → In e r × IsBefore r (place i (j + 1)) → r ≡ q
 first_walked e i j q at first r h = grind (arith, common_steps, walked, none_before)
 
 once-cells : (f : Rectangle) → Once (cells_in f)
@@ -41,12 +32,12 @@ module _ (places : Places) (e : Rectangle) where
       Around places e more (place (min first.row p.row) (min first.col p.col)) (place (max last.row p.row) (max last.col p.col))
   around-more some more first last q p to takes one inside row col a = record { each = each; least = least; order = record { top = omega arith; bottom = omega (arith, a.order.bottom); left = omega arith; right = omega (arith, a.order.right) }; row = omega (arith, row, a.row); col = omega (arith, col, a.col) }
     where
-      by : (r : Position) → some r ⊎ (r ≡ q) → (n : Position) × Takes places n r × Between (place (min first.row p.row) (min first.col p.col)) (place (max last.row p.row) (max last.col p.col)) n × ((m : Position) → Takes places m r → m ≡ n)
-      by r (inl h) = let t = a.each r h in (t.0, t.1, record { top = omega (arith, t.2.top); bottom = omega (arith, t.2.bottom); left = omega (arith, t.2.left); right = omega (arith, t.2.right) }, t.3)
-      by r (inr same) = (p, subst (λ x. Takes places p x) (sym same) takes, record { top = omega arith; bottom = omega arith; left = omega arith; right = omega arith }, λ m t. one m (subst (λ x. Takes places m x) same t))
+      around : (r : Position) → some r ⊎ (r ≡ q) → (n : Position) × Takes places n r × Between (place (min first.row p.row) (min first.col p.col)) (place (max last.row p.row) (max last.col p.col)) n × ((m : Position) → Takes places m r → m ≡ n)
+      around r (inl h) = let t = a.each r h in (t.0, t.1, record { top = omega (arith, t.2.top); bottom = omega (arith, t.2.bottom); left = omega (arith, t.2.left); right = omega (arith, t.2.right) }, t.3)
+      around r (inr same) = (p, subst (λ x. Takes places p x) (sym same) takes, record { top = omega arith; bottom = omega arith; left = omega arith; right = omega arith }, λ m t. one m (subst (λ x. Takes places m x) same t))
 
       each : (r : Position) → more r → (n : Position) × Takes places n r × Between (place (min first.row p.row) (min first.col p.col)) (place (max last.row p.row) (max last.col p.col)) n × ((m : Position) → Takes places m r → m ≡ n)
-      each r h = by r (to r h)
+      each r h = around r (to r h)
 
       least : (g : Rectangle) → ((n r : Position) → Takes places n r → In e r → In g n) → In g (place (min first.row p.row) (min first.col p.col)) × In g (place (max last.row p.row) (max last.col p.col))
       least g holds =

@@ -1,6 +1,6 @@
 -- The smallest rectangle around the new places of some cells.
 use Rattle.std.specs.Prelude.{◌≡◌, ◌<◌, ◌≤◌, ◌^◌, ◌+◌}
-use Rattle.tabled_grid.specs.Midway.{In}
+use Rattle.tabled_grid.specs.Rectangles.{In}
 use Rattle.tabled_grid.specs.Places.{Places}
 use Rattle.tabled_grid.specs.declared.config.position.Position.{Position}
 use Rattle.tabled_grid.specs.declared.config.rectangle.Rectangle.{Rectangle}

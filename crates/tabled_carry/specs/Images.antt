@@ -3,20 +3,12 @@ use Rattle.std.specs.Prelude.{◌≡◌, ◌<◌, ◌≤◌, ℕ, ◌+◌, ◌-�
 use Rattle.std.specs.List.{filter, flat_map, list_all, list_any}
 use Rattle.tabled_grid.specs.Entity.{block, same_place}
 use Rattle.tabled_grid.specs.Fitting.{keep_fitting}
-use Rattle.tabled_grid.specs.Midway.{In}
 use Rattle.tabled_grid.specs.Places.{Places}
-use Rattle.tabled_grid.specs.Rectangles.{holds}
+use Rattle.tabled_grid.specs.Rectangles.{HasArea, In, holds}
 use Rattle.tabled_grid.specs.Spans.{SpanMap, from_rectangles, get, rectangle, rectangles, sized}
 use Rattle.tabled_grid.specs.declared.config.position.Position.{Position}
 use Rattle.tabled_grid.specs.declared.config.rectangle.Rectangle.{Rectangle}
 use Rattle.tabled_grid.specs.declared.config.size.Size.{Size}
-
--- a rectangle of a map lies inside a table, and shares no cell with another one
-pub record IsFree (m : SpanMap) (rows columns : ℕ) (a : Position) (s : Size) : Type 0 where
-  pub here : get m a ≡ Some s
-  pub bottom : a.row + s.height ≤ rows
-  pub right : a.col + s.width ≤ columns
-  pub alone : (b : Position) (t : Size) (p : Position) → get m b ≡ Some t → In (rectangle a s) p → In (rectangle b t) p → a ≡ b
 
 -- the cells of a rectangle, row by row
 abbrev pub cells_in : Rectangle → List Position
@@ -64,11 +56,6 @@ pub record Carries (places : Places) (e f : Rectangle) : Type 0 where
   pub all : (q : Position) → In e q → (p : Position) × Takes places p q
   pub only : (p q : Position) → Takes places p q → In e q → In f p
   pub from : (p : Position) → In f p → (q : Position) × In e q × Takes places p q
-
--- a rectangle is not empty
-pub record HasArea (f : Rectangle) : Type 0 where
-  pub height : 1 ≤ f.size.height
-  pub width : 1 ≤ f.size.width
 
 -- the new map has just the rectangles that carry one of the old map
 pub record IsImage (places : Places) (old new : SpanMap) : Type 0 where

@@ -3,12 +3,12 @@
 ghost use Rattle.std.specs.Prelude.{◌≡◌, ◌+◌, ◌*◌, ◌<◌, ◌^◌, IsNone, Some, max, min};
 ghost use Rattle.std.specs.Option.{IfSome};
 ghost use Rattle.tabled_grid.specs.Entity.{place};
-ghost use Rattle.tabled_grid.specs.Midway.{In};
+ghost use Rattle.tabled_grid.specs.Rectangles.{HasArea, In};
 ghost use Rattle.tabled_grid.specs.Places.{Places};
 ghost use Rattle.tabled_grid.specs.declared.config.position.Position.{Position};
 ghost use Rattle.tabled_grid.specs.declared.config.rectangle.Rectangle.{Rectangle};
 ghost use Rattle.tabled_carry.specs.Corners.{Around};
-ghost use Rattle.tabled_carry.specs.Images.{Carries, HasArea, Takes};
+ghost use Rattle.tabled_carry.specs.Images.{Carries, Takes};
 
 use tabled_grid::config::{Position, Rectangle, Size};
 

@@ -1,21 +1,22 @@
 //! Laws of merged cells that are carried along. Each is the contract of a function that does nothing.
 
 ghost use Rattle.std.specs.Prelude.{◌≡◌, ◌↔◌, ℕ, List, Some, false};
-ghost use Rattle.tabled_grid.specs.Fitting.{Fits, keep_fitting};
+ghost use Rattle.tabled_grid.specs.Fitting.{Fits, FitsAmong, keep_fitting};
 ghost use Rattle.tabled_grid.specs.Grid.{Grid};
 ghost use Rattle.tabled_grid.specs.Places.{Places};
 ghost use Rattle.tabled_grid.specs.Shifts.{is_crossed};
 ghost use Rattle.tabled_grid.specs.Spans.{SpanMap, get};
 ghost use Rattle.tabled_grid.specs.declared.config.position.Position.{Position};
+ghost use Rattle.tabled_grid.specs.declared.config.rectangle.Rectangle.{Rectangle};
 ghost use Rattle.tabled_grid.specs.declared.records.axis.Axis.{Axis};
 ghost use Rattle.tabled_grid.specs.declared.records.axis.Axis.TheVariants.{Columns, Rows};
 ghost use Rattle.tabled_grid.specs.declared.config.size.Size.{Size};
-ghost use Rattle.tabled_carry.specs.Images.{CarriesAll, IsFree, IsImage, KeepsPlaces, LeadsBack, carried};
+ghost use Rattle.tabled_carry.specs.Images.{CarriesAll, IsImage, KeepsPlaces, LeadsBack, carried};
 ghost use Rattle.tabled_carry.specs.PutIn.{FitsGrid, PutsInColumn, PutsInRow};
 
 /// Those rectangles fit a table that lie inside it and share no cell with another one.
 pub fn fitting_rectangles_are_the_free_ones()
-    ensures { (m : SpanMap) (rows columns : ℕ) (a : Position) (s : Size) → (get (keep_fitting rows columns m) a ≡ Some s) ↔ IsFree m rows columns a s }
+    ensures { (m : SpanMap) (rows columns : ℕ) (e : Rectangle) → (get (keep_fitting rows columns m) e.first ≡ Some e.size) ↔ ((get m e.first ≡ Some e.size) × FitsAmong m rows columns e) }
 {}
 
 /// The rectangles that are carried along are just those whose cells are the new places of the cells of one

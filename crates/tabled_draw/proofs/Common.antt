@@ -30,7 +30,8 @@ pub use Rattle.tabled_draw.specs.declared.style.TheConstants.Style.{ASCII}
 pub use Rattle.tabled_grid.proofs.Common.{[], ◌++◌, ◌+◌, ◌-◌, ◌<◌, ◌∙◌, ◌∷◌, ◌≡◌, ◌≢◌, ◌≤◌, ◌⊎◌, AllByRecursion, AreSorted, Bool, Fits, Grid, In, IsInside, List, None, Option, Some, SpanMap, across, add-one, all-append, and_from, ap, ap₂, arith, cases_Bool, cases_eq, cases_lt, cell_at, common_steps, cond, cond-false, cond-true, count_along, eqb, false, false_from_ne_true, false≢true, find, fitting, get, get_or, get_or-set_other, get_or-set_same, get_or_append_left, get_or_default, holds, inl, inr, is_hidden_in, keep_fitting, le-leb, length, length-map, length-replicate, line_of, lines_in, list_any, lt-ltb, ltb-false, map, map-set, map_grid, map_of, max, nil_from_length, none-some, pairs, place, place_in, position_cmp, rectangle, rectangles, refl, replicate, replicate-append-replicate, same_Some, same_place, set, size_at, sized, subst, suc, sym, take, take_more, true, zero, ℕ}
 pub use Rattle.tabled_grid.proofs.Members.{Member, any-from, find-member, sorted-find}
 pub use Rattle.tabled_grid.proofs.SortedEntries.{find_at, get-rectangles, rectangles-map_of, rectangles_anchors, rectangles_sorted, span_at}
-pub use Rattle.tabled_grid.proofs.SpanMaps.{at, equal, found_above, halves, holds-from, holds-true, same_place-apart, same_place-self, same_place-true, size_at-none, size_at-some}
+pub use Rattle.tabled_grid.proofs.SpanMaps.{at, equal, found_above, halves, same_place-apart, same_place-self, same_place-true, size_at-none, size_at-some}
+pub use Rattle.tabled_grid.proofs.Rectangles.{holds-from, holds-true}
 pub use Rattle.tabled_grid.specs.declared.config.position.Position.{Position}
 pub use Rattle.tabled_grid.specs.declared.config.rectangle.Rectangle.{Rectangle}
 pub use Rattle.tabled_grid.specs.declared.config.size.Size.{Size}

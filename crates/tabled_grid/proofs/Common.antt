@@ -32,7 +32,7 @@ pub use Rattle.tabled_grid.proofs.Lists.{all-append, all-drop, all-insert, all-m
 pub use Rattle.tabled_grid.proofs.RowByRow.{Changed, changed_all, changed_more, changed_next, first_left, same_cells, same_lens}
 pub use Rattle.tabled_grid.specs.AddedLines.{AddsLines}
 pub use Rattle.tabled_grid.specs.Along.{count_along, first_along, without_line}
-pub use Rattle.tabled_grid.specs.Anchors.{anchor_of, are_apart, dropped, is_hidden_in, is_past, lie_well, lies_inside, marked, meets, unless_held, with_size_in, with_sizes_in, without_first_at}
+pub use Rattle.tabled_grid.specs.Anchors.{anchor_of, dropped, elsewhere, is_hidden_in, is_past, marked, unless_held, with_size_in, with_sizes_in, without_first_at}
 pub use Rattle.tabled_grid.specs.Axis.{across, count_of, line_of, lines_in, next_line, place_in}
 pub use Rattle.tabled_grid.specs.Bulk.{AddsColumns, AddsRows, Exchanges, cell_in, transposed, transposed_rows, turned_places, with_items_behind}
 pub use Rattle.tabled_grid.specs.CellCounts.{CountsBlock, IsFew, IsMany, counts_of}
@@ -40,18 +40,19 @@ pub use Rattle.tabled_grid.specs.Covers.{Cover, IsCoverOf, IsNumbered, Stepped, 
 pub use Rattle.tabled_grid.specs.Entity.{block, column_named, inside, lines_named, names, place, places_in, row_named, row_places, same_place}
 pub use Rattle.tabled_grid.proofs.Evenness.{is_even}
 pub use Rattle.tabled_grid.specs.Evenness.{AreWide, length-chunks, no_columns, wide-chunks}
-pub use Rattle.tabled_grid.specs.Fitting.{Fits, fits_among, fitting, keep_fitting, with_met}
+pub use Rattle.tabled_grid.specs.Fitting.{AreApart, Fits, FitsAmong, all_fit, fits_among, fitting, keep_fitting, with_met}
 pub use Rattle.tabled_grid.specs.Flat.{IsFull, chunks, flat_grid, joined}
 pub use Rattle.tabled_grid.specs.Grid.{Grid, IsEmptyWithoutRows, IsEven, IsInside, WritesText, cell_at, grid_of, map_grid, map_items, width_of, with_cell}
 pub use Rattle.tabled_grid.specs.Hidden.{drop_hidden, is_hidden, is_visible}
-pub use Rattle.tabled_grid.specs.Midway.{In, Midway}
+pub use Rattle.tabled_grid.specs.Midway.{Midway}
 pub use Rattle.tabled_grid.specs.Moves.{AddsBlanks, InsertsBlanks, PutsBlanks, Slid, SlidBack, with_runs_swapped}
+pub use Rattle.tabled_grid.specs.Order.{IsBefore, IsFrom}
 pub use Rattle.tabled_grid.specs.Pieces.{IsPiece, cut_places, index_in_line, nth_piece, piece_index}
 pub use Rattle.tabled_grid.specs.Places.{FillsThrough, IsShapedAs, Places, TakesOnce, Within}
-pub use Rattle.tabled_grid.specs.Rectangles.{holds, reaches_across, reaches_down}
+pub use Rattle.tabled_grid.specs.Rectangles.{HasArea, In, LiesInside, Meets, holds, lies_inside, meets, reaches_across, reaches_down}
 pub use Rattle.tabled_grid.specs.Resized.{AreBlanks, InsertsBlank, InsertsColumn, InsertsRow, with_cell_if, with_cells_swapped, with_column, with_columns_swapped, with_row, with_rows_swapped, without_column, without_row}
 pub use Rattle.tabled_grid.specs.Shifts.{crosses_line, is_crossed, shifted, shifted_in, shifted_place}
-pub use Rattle.tabled_grid.specs.Spans.{AreAnchors, AreSorted, IsSizeAt, IsSpanSize, SpanMap, anchors-spans_of, get, have_spans, is_cell, is_span, map_of, of_pairs, pairs, position_cmp, rectangle, rectangles, same_spans, size_at, sized, with_column_span, with_row_span, with_size, with_sizes}
+pub use Rattle.tabled_grid.specs.Spans.{AreAnchors, AreSorted, IsSpan, SpanMap, anchors-spans_of, get, have_spans, is_cell, is_span, map_of, of_pairs, pairs, position_cmp, rectangle, rectangles, same_spans, size_at, sized, with_column_span, with_row_span, with_size, with_sizes}
 pub use Rattle.tabled_grid.specs.declared.config.position.Position.{Position}
 pub use Rattle.tabled_grid.specs.declared.config.rectangle.Rectangle.{Rectangle}
 pub use Rattle.tabled_grid.specs.declared.config.size.Size.{Size}

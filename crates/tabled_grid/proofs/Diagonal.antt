@@ -1,18 +1,11 @@
 -- Cells of a square swapped across the diagonal, row by row.
-use Rattle.tabled_grid.proofs.Common.{◌+◌, ◌<◌, ◌≡◌, ◌≢◌, ◌≤◌, ◌⊎◌, arith, cases_eq, cases_lt, common_steps, inl, inr, ℕ}
+use Rattle.tabled_grid.proofs.Common.{◌+◌, ◌<◌, ◌≡◌, ◌≢◌, ◌≤◌, ◌⊎◌, IsBefore, IsFrom, arith, cases_eq, cases_lt, common_steps, inl, inr, place, ℕ}
 use Rattle.tabled_grid.proofs.SwappedCells.{Swaps}
 
 -- of a square, the cells before a place of its upper half, row by row, have changed places with those across the diagonal
 pub record HalfTransposed {B : Type 0} (old new : ℕ → ℕ → B) (size i j : ℕ) : Type 0 where
-  pub done : (a b : ℕ) → a ≤ b → b < size → (a < i) ⊎ ((a ≡ i) × (b < j)) → (new a b ≡ old b a) × (new b a ≡ old a b)
-  pub left : (a b : ℕ) → a ≤ b → (i < a) ⊎ ((a ≡ i) × (j ≤ b)) → (new a b ≡ old a b) × (new b a ≡ old b a)
-
--- a place comes before one of the upper half, or not
-abbrev Before : ℕ → ℕ → ℕ → ℕ → Type 0
-Before i j a b = (a < i) ⊎ ((a ≡ i) × (b < j))
-
-abbrev NotBefore : ℕ → ℕ → ℕ → ℕ → Type 0
-NotBefore i j a b = (i < a) ⊎ ((a ≡ i) × (j ≤ b))
+  pub done : (a b : ℕ) → a ≤ b → b < size → IsBefore (place a b) (place i j) → (new a b ≡ old b a) × (new b a ≡ old a b)
+  pub left : (a b : ℕ) → a ≤ b → IsFrom (place a b) (place i j) → (new a b ≡ old a b) × (new b a ≡ old b a)
 
 module _ {B : Type 0} (old : ℕ → ℕ → B) where
   pub half_none : (size : ℕ) → HalfTransposed old old size 0 0
@@ -36,16 +29,16 @@ module _ {B : Type 0} (old : ℕ → ℕ → B) where
     pair_untouched : (a b : ℕ) → a ≤ b → (a ≡ i → b ≢ j) → (new a b ≡ cur a b) × (new b a ≡ cur b a)
     pair_untouched a b k first = grind (arith, common_steps, untouched)
 
-    earlier : (a b : ℕ) → (a ≡ i → b ≢ j) → Before i next a b → Before i j a b
+    earlier : (a b : ℕ) → (a ≡ i → b ≢ j) → IsBefore (place a b) (place i next) → IsBefore (place a b) (place i j)
     earlier a b first (inl less) = inl less
     earlier a b first (inr (at, below)) = let apart = first at in inr (at, omega (arith, apart, below, e))
 
-    done_at : (a b : ℕ) → a ≤ b → b < size → Before i next a b → (a ≡ i) ⊎ (a ≢ i) → (b ≡ j) ⊎ (b ≢ j) → (new a b ≡ old b a) × (new b a ≡ old a b)
+    done_at : (a b : ℕ) → a ≤ b → b < size → IsBefore (place a b) (place i next) → (a ≡ i) ⊎ (a ≢ i) → (b ≡ j) ⊎ (b ≢ j) → (new a b ≡ old b a) × (new b a ≡ old a b)
     done_at a b k m before (inl at_a) (inl at_b) = grind (arith, common_steps)
     done_at a b k m before (inl at_a) (inr off_b) = grind (arith, common_steps, pair_untouched, earlier)
     done_at a b k m before (inr off_a) at_b = grind (arith, common_steps, pair_untouched, earlier)
 
-    left_at : (a b : ℕ) → a ≤ b → NotBefore i next a b → (new a b ≡ old a b) × (new b a ≡ old b a)
+    left_at : (a b : ℕ) → a ≤ b → IsFrom (place a b) (place i next) → (new a b ≡ old a b) × (new b a ≡ old b a)
     left_at a b k (inl less) = grind (arith, common_steps, pair_untouched)
     left_at a b k (inr (at, from)) = grind (arith, common_steps, pair_untouched)
 

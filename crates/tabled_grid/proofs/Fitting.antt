@@ -1,61 +1,36 @@
 -- What is left once the rectangles that do not fit have gone.
-use Rattle.tabled_grid.proofs.Common.{◌||◌, ◌∙◌, ◌≡◌, ◌⊎◌, All-filter, All-from_recursion, AreAnchors, Fits, List, None, Option, Position, Rectangle, Size, Some, SpanMap, and_from, and_parts, ap, are_apart, cases_Bool, false, fits_among, fitting, get, inl, inr, keep_fitting, lies_inside, list_all, map_of, meets, not, not_from_false, or_cases, or_left, or_right, rectangle, rectangles, recursion_from_All, refl, rules, same_place, subst, sym, true, ℕ}
-use Rattle.tabled_grid.proofs.FittingAnchors.{apart-from, fits_well, has, one_anchor, room}
-use Rattle.tabled_grid.proofs.SpanMaps.{same_place-self, same_place-true}
-use Rattle.tabled_grid.proofs.SortedEntries.{get-map_of, map_of-rectangles, rectangles_anchors, same_map}
-use Rattle.tabled_grid.proofs.Members.{Member, all-from, all-member, filter-from, filter-member, find-member, sorted-filter, sorted-find}
+use Rattle.tabled_grid.proofs.Common.{◌∙◌, ◌≡◌, All-filter, All-from_recursion, AreAnchors, Fits, FitsAmong, List, None, Option, Rectangle, Size, Some, SpanMap, elsewhere, fits_among, fitting, get, keep_fitting, rectangle, rectangles, recursion_from_All, refl, rules, sym, ℕ}
+use Rattle.tabled_grid.proofs.FittingAnchors.{among-from, among-true}
+use Rattle.tabled_grid.proofs.Members.{filter-from, filter-member, find-member, get-member, member-get, sorted-filter, sorted-find}
+use Rattle.tabled_grid.proofs.SortedEntries.{get-map_of, rectangles_anchors, same_map}
 
 pub anchors-fitting : (rows columns : ℕ) (es : List Rectangle) → AreAnchors es → AreAnchors (fitting rows columns es)
 anchors-fitting rows columns es valid = search (rules, sorted-filter, recursion_from_All, All-filter, All-from_recursion)
 
--- those that are left fit
-pub fitting-fits : (rows columns : ℕ) (es : List Rectangle) → AreAnchors es → Fits (map_of (fitting rows columns es)) rows columns
-fitting-fits rows columns es valid =
-    fits_well rows columns (fitting rows columns es) left
-    (and_from (list_all (lies_inside rows columns) (fitting rows columns es)) (are_apart (fitting rows columns es))
-    (all-from (lies_inside rows columns) (fitting rows columns es) (λ e m. (parts e (filter-member (fits_among rows columns es) e es m).1).0))
-    (apart-from (fitting rows columns es) left.sorted (λ e f m n t. alone e f t (or_cases (same_place e.first f.first) (not (meets e f)) (all-member (λ (g : Rectangle). same_place e.first g.first || not (meets e g)) f es (parts e (filter-member (fits_among rows columns es) e es m).1).1 (filter-member (fits_among rows columns es) f es n).0)))))
-  where
-    left : AreAnchors (fitting rows columns es)
-    left = anchors-fitting rows columns es valid
+module _ (rows columns : ℕ) (m : SpanMap) where
+  left : AreAnchors (fitting rows columns (rectangles m))
+  left = anchors-fitting rows columns (rectangles m) (rectangles_anchors m)
 
-    parts : (e : Rectangle) → fits_among rows columns es e ≡ true → (lies_inside rows columns e ≡ true) × (list_all (λ (f : Rectangle). same_place e.first f.first || not (meets e f)) es ≡ true)
-    parts e t = and_parts (lies_inside rows columns e) (list_all (λ (f : Rectangle). same_place e.first f.first || not (meets e f)) es) t
+  -- just those that fit among the others are left
+  pub kept-fits : (e : Rectangle) → get (keep_fitting rows columns m) e.first ≡ Some e.size → (get m e.first ≡ Some e.size) × FitsAmong m rows columns e
+  kept-fits e is =
+      let found = filter-member (λ (f : Rectangle). fits_among rows columns (elsewhere f.first (rectangles m)) f) e (rectangles m) (find-member (fitting rows columns (rectangles m)) e.first e.size (sym (get-map_of (fitting rows columns (rectangles m)) e.first left) ∙ is)) in
+      (member-get m e found.0, among-true rows columns m e found.1)
 
-    alone : (e f : Rectangle) → meets e f ≡ true → (same_place e.first f.first ≡ true) ⊎ (not (meets e f) ≡ true) → e.first ≡ f.first
-    alone e f met (inl same) = same_place-true e.first f.first same
-    alone e f met (inr out) = let never : true ≡ false = sym out ∙ ap not met in cc
+  pub fits-kept : (e : Rectangle) → get m e.first ≡ Some e.size → FitsAmong m rows columns e → get (keep_fitting rows columns m) e.first ≡ Some e.size
+  fits-kept e is fits =
+      let i = get-member m e is in
+      get-map_of (fitting rows columns (rectangles m)) e.first left
+      ∙ sorted-find (fitting rows columns (rectangles m)) e left.sorted (filter-from (λ (f : Rectangle). fits_among rows columns (elsewhere f.first (rectangles m)) f) e (rectangles m) i (among-from rows columns m e i fits))
 
--- where all fit, all are left
-pub fitting-all : (rows columns : ℕ) (es : List Rectangle) → AreAnchors es → Fits (map_of es) rows columns → map_of (fitting rows columns es) ≡ map_of es
-fitting-all rows columns es valid fits = same_map (map_of (fitting rows columns es)) (map_of es) (λ q. by q (get (map_of es) q) refl (get (map_of (fitting rows columns es)) q) refl)
-  where
-    left : AreAnchors (fitting rows columns es)
-    left = anchors-fitting rows columns es valid
+  pub keep_fitting-fits : Fits (keep_fitting rows columns m) rows columns
+  keep_fitting-fits = record { each = λ e is. let fits = (kept-fits e is).1 in record { inside = fits.inside; alone = λ f p js. fits.alone f p (kept-fits f js).0 } }
 
-    alone : (e f : Rectangle) → Member e es → Member f es → (meets e f ≡ true) ⊎ (meets e f ≡ false) → (same_place e.first f.first || not (meets e f)) ≡ true
-    alone e f m n (inl met) = or_left (same_place e.first f.first) (not (meets e f)) (subst (λ (p : Position). same_place e.first p ≡ true) (one_anchor rows columns es valid fits e f m n met) (same_place-self e.first))
-    alone e f m n (inr out) = or_right (same_place e.first f.first) (not (meets e f)) (not_from_false (meets e f) out)
-
-    stays : (e : Rectangle) → Member e es → fits_among rows columns es e ≡ true
-    stays e m = and_from (lies_inside rows columns e) (list_all (λ (f : Rectangle). same_place e.first f.first || not (meets e f)) es) (room rows columns es valid fits e m) (all-from (λ (f : Rectangle). same_place e.first f.first || not (meets e f)) es (λ f n. alone e f m n (cases_Bool (meets e f))))
-
-    over : (q : Position) (s : Size) → get (map_of es) q ≡ Some s → get (map_of (fitting rows columns es)) q ≡ Some s
-    over q s h =
-        let m = find-member es q s (sym (get-map_of es q valid) ∙ h) in
-        get-map_of (fitting rows columns es) q left ∙ sorted-find (fitting rows columns es) (rectangle q s) left.sorted (filter-from (fits_among rows columns es) (rectangle q s) es m (stays (rectangle q s) m))
-
-    back : (q : Position) (s : Size) → get (map_of (fitting rows columns es)) q ≡ Some s → get (map_of es) q ≡ Some s
-    back q s h = has rows columns es valid (rectangle q s) (filter-member (fits_among rows columns es) (rectangle q s) es (find-member (fitting rows columns es) q s (sym (get-map_of (fitting rows columns es) q left) ∙ h))).0
-
-    by : (q : Position) (x : Option Size) → get (map_of es) q ≡ x → (y : Option Size) → get (map_of (fitting rows columns es)) q ≡ y → get (map_of (fitting rows columns es)) q ≡ get (map_of es) q
-    by q (Some s) h y k = over q s h ∙ sym h
-    by q None h (Some s) k = k ∙ sym (back q s k)
-    by q None h None k = k ∙ sym h
-
--- of maps
-pub keep_fitting-fits : (rows columns : ℕ) (m : SpanMap) → Fits (keep_fitting rows columns m) rows columns
-keep_fitting-fits rows columns m = fitting-fits rows columns (rectangles m) (rectangles_anchors m)
-
-pub keep_fitting-all : (rows columns : ℕ) (m : SpanMap) → Fits m rows columns → keep_fitting rows columns m ≡ m
-keep_fitting-all rows columns m fits = fitting-all rows columns (rectangles m) (rectangles_anchors m) (subst (λ (n : SpanMap). Fits n rows columns) (sym (map_of-rectangles m)) fits) ∙ map_of-rectangles m
+  -- where all fit, all are left
+  pub keep_fitting-all : Fits m rows columns → keep_fitting rows columns m ≡ m
+  keep_fitting-all fits = same_map _ _ (λ q. same q (get m q) refl (get (keep_fitting rows columns m) q) refl)
+    where
+      same : (q : _) (x : Option Size) → get m q ≡ x → (y : Option Size) → get (keep_fitting rows columns m) q ≡ y → get (keep_fitting rows columns m) q ≡ get m q
+      same q (Some s) is y js = fits-kept (rectangle q s) is (fits.each (rectangle q s) is) ∙ sym is
+      same q None is (Some s) js = js ∙ sym (kept-fits (rectangle q s) js).0
+      same q None is None js = js ∙ sym is

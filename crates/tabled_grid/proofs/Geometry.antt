@@ -1,6 +1,6 @@
 -- Rectangles given by a size at each place, and what holds in the middle of a span option.
-use Rattle.tabled_grid.proofs.Common.{◌+◌, ◌<◌, ◌∙◌, ◌≡◌, ◌≢◌, ◌≤◌, ◌⊎◌, Position, Rectangle, Size, ap, arith, cases_eq, cases_lt, common_steps, inl, inr, inside, place, rectangle, sized, subst, sym, ℕ}
-pub use Rattle.tabled_grid.specs.Midway.{Flat, Hooked, In, Narrow, Sizes, LieWithin}
+use Rattle.tabled_grid.proofs.Common.{◌+◌, ◌<◌, ◌∙◌, ◌≡◌, ◌≢◌, ◌≤◌, ◌⊎◌, In, Position, Rectangle, Size, ap, arith, cases_eq, cases_lt, common_steps, inl, inr, inside, place, rectangle, sized, subst, sym, ℕ}
+pub use Rattle.tabled_grid.specs.Midway.{Flat, Hooked, Narrow, Sizes, LieWithin}
 
 -- no rectangle is empty
 pub record Full (s : Sizes) : Type 0 where
@@ -53,12 +53,12 @@ module _ (s : Sizes) (p : Position) (w : ℕ) (full : Full s) (hooked : Hooked s
           omega (arith, ap (λ (x : Position). x.col) same)
 
   begins_in : (b q : Position) → b ≢ p → In (rectangle p (sized (s p).height w)) q → In (rectangle b (s b)) q → In (rectangle p (sized (s p).height w)) b
-  begins_in b q apart new old = by_row (cases_lt b.row p.row) (cases_lt b.col p.col)
+  begins_in b q apart new old = beside (cases_lt b.row p.row) (cases_lt b.col p.col)
     where
-      by_row : (b.row < p.row) ⊎ (p.row ≤ b.row) → (b.col < p.col) ⊎ (p.col ≤ b.col) → In (rectangle p (sized (s p).height w)) b
-      by_row (inl above) c = absurd (not_above b q apart new old above)
-      by_row (inr below) (inl left) = absurd (not_left b q apart new old below left)
-      by_row (inr below) (inr right) = record { top = below; bottom = omega (arith, old.top, new.bottom); left = right; right = omega (arith, old.left, new.right) }
+      beside : (b.row < p.row) ⊎ (p.row ≤ b.row) → (b.col < p.col) ⊎ (p.col ≤ b.col) → In (rectangle p (sized (s p).height w)) b
+      beside (inl above) c = absurd (not_above b q apart new old above)
+      beside (inr below) (inl left) = absurd (not_left b q apart new old below left)
+      beside (inr below) (inr right) = record { top = below; bottom = omega (arith, old.top, new.bottom); left = right; right = omega (arith, old.left, new.right) }
 
   pub hooked_widened : (t : Sizes) → Widened s t p w → Hooked t
   hooked_widened t is = record { hook = hook }

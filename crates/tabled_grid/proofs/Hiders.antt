@@ -1,10 +1,10 @@
 -- How many anchors hide a place, and how that follows the map.
-use Rattle.tabled_grid.proofs.Common.{[], ◌%◌, ◌*◌, ◌+◌, ◌-◌, ◌<◌, ◌||◌, ◌∙◌, ◌∷◌, ◌≡◌, ◌≢◌, ◌≤◌, ◌⊎◌, AllByRecursion, AreSorted, Bool, In, IsNumbered, List, None, Option, Position, Rectangle, Size, Some, SpanMap, Stepped, Steps, ap, ap₂, area, arith, beyond, cases_Bool, cases_lt, common_steps, cond, count_by, eq_by_cmp, false, false_from_ne_true, false≢true, get, get_or, hider_counts, hiders_in, hiders_of, hides, inl, inr, is_hidden, is_span, length, list_any, lt-ltb, mul-le-mul_right, nat_lt, not, place, position_cmp, rectangle, rectangles, refl, replicate, rules, size_at, sized, subst, sym, take, tied_itself, true, unwrap_or, with_size, ℕ}
+use Rattle.tabled_grid.proofs.Common.{[], ◌%◌, ◌*◌, ◌+◌, ◌-◌, ◌<◌, ◌||◌, ◌∙◌, ◌∷◌, ◌≡◌, ◌≢◌, ◌≤◌, ◌⊎◌, AllByRecursion, AreSorted, Bool, In, IsBefore, IsNumbered, List, None, Option, Position, Rectangle, Size, Some, SpanMap, Stepped, Steps, ap, ap₂, area, arith, beyond, cases_Bool, cases_lt, common_steps, cond, count_by, elsewhere, eq_by_cmp, false, false_from_ne_true, false≢true, get, get_or, hider_counts, hiders_in, hiders_of, hides, inl, inr, is_hidden, is_span, length, list_any, lt-ltb, mul-le-mul_right, nat_lt, not, place, position_cmp, rectangle, rectangles, refl, replicate, rules, size_at, sized, subst, sym, take, tied_itself, true, unwrap_or, with_size, ℕ}
 use Rattle.std.proofs.Math.Nat.{add-mod_right, mod-eq_of_lt}
 use Rattle.std.proofs.lemmas.List.Sums.{count_by_more_no, count_by_more_yes, sum_by-cons, sum_by-take-le}
-use Rattle.tabled_grid.proofs.PassedAnchors.{Earlier, earlier}
+use Rattle.tabled_grid.proofs.Order.{before-less}
 use Rattle.tabled_grid.specs.Spans as spans
-use Rattle.tabled_grid.proofs.SortedEntries.{Below, elsewhere, filter_anchors, find_at, get-rectangles, get-retain, halves, less, none_below, positions_exact, positions_total, rectangles-map_of, rectangles_anchors, rectangles_sorted, same_map, span-from}
+use Rattle.tabled_grid.proofs.SortedEntries.{Below, filter_anchors, find_at, get-rectangles, get-retain, halves, less, none_below, positions_exact, positions_total, rectangles-map_of, rectangles_anchors, rectangles_sorted, same_map, span-from}
 use Rattle.tabled_grid.proofs.SpanMaps.{equal, size_at-with_none, size_at-with_span, with_size-other}
 use Rattle.tabled_grid.proofs.Stepping.{hides-true}
 use Rattle.tabled_grid.proofs.Tables.{table-zero}
@@ -32,7 +32,7 @@ hidden-counts m p = any-counts (hides p) (rectangles m)
 abbrev code : ℕ → Position → ℕ
 code columns p = p.row * columns + p.col
 
-code-less : (columns : ℕ) (p q : Position) → Earlier p q → p.col < columns → code columns p < code columns q
+code-less : (columns : ℕ) (p q : Position) → IsBefore p q → p.col < columns → code columns p < code columns q
 code-less columns p q (inl above) h = search (rules, mul-le-mul_right)
 code-less columns p q (inr beside) h = grind (arith, common_steps)
 
@@ -47,7 +47,7 @@ few columns k p (e ∷ es) up h l all = by (cases_Bool (hides p e)) (few columns
   where
     after : (fs : List Rectangle) → hides p e ≡ true → Below e.first fs → AllByRecursion (λ (f : Rectangle). hides p f ≡ true → code columns e.first + 1 ≤ code columns f.first) fs
     after [] t below = tt
-    after (f ∷ fs) t below = ((λ u. omega (arith, code-less columns e.first f.first (earlier e.first f.first (less _ (halves _ _ below).0)) (hider-before columns p e h t).0)), after fs t (halves _ _ below).1)
+    after (f ∷ fs) t below = ((λ u. omega (arith, code-less columns e.first f.first (before-less e.first f.first (less _ (halves _ _ below).0)) (hider-before columns p e h t).0)), after fs t (halves _ _ below).1)
 
     by : (hides p e ≡ true) ⊎ (hides p e ≡ false) → hiders_in es p + k ≤ code columns p → ((j : ℕ) → j ≤ code columns p → AllByRecursion (λ (f : Rectangle). hides p f ≡ true → j ≤ code columns f.first) es → hiders_in es p + j ≤ code columns p) → hiders_in (e ∷ es) p + k ≤ code columns p
     by (inl t) same go =

@@ -34,12 +34,14 @@ pub mod Merging
 pub mod MetAnchors
 pub mod NearAnchors
 pub mod NestedRows
+pub mod Order
 pub mod OwnStore
 pub mod PassedAnchors
 pub mod PiecePlaces
 pub mod PiecesCut
 pub mod PiecesPut
 pub mod Places
+pub mod Rectangles
 pub mod Resized
 pub mod RowByRow
 pub mod SamePlaces

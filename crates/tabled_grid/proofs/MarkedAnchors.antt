@@ -1,9 +1,10 @@
 -- Anchors that are marked where another holds them, from the last to the first, and what is left of them.
-use Rattle.tabled_grid.proofs.Common.{[], ◌&&◌, ◌++◌, ◌+◌, ◌-◌, ◌<◌, ◌||◌, ◌∙◌, ◌∷◌, ◌≡◌, ◌≤◌, AllByRecursion, AreSorted, Bool, IsSpanSize, List, Position, Rectangle, T, ap, ap₂, arith, common_steps, cond, drop, drop_at, drop_more, dropped, false, false_from_ne_true, filter, get_or, get_or-take, get_or_append_left, holds, inl, inr, is_hidden_in, is_lt, length, length-take, lt-ltb, map, marked, nat_lt, not, position_cmp, rectangle, refl, same_place, sized, subst, suc, sym, take, true, unless_held, ℕ}
-use Rattle.tabled_grid.proofs.Geometry.{In}
+use Rattle.tabled_grid.proofs.Common.{[], ◌&&◌, ◌++◌, ◌+◌, ◌-◌, ◌<◌, ◌||◌, ◌∙◌, ◌∷◌, ◌≡◌, ◌≤◌, AllByRecursion, AreSorted, Bool, In, IsBefore, IsSpan, List, Position, Rectangle, T, and_right, ap, ap₂, arith, common_steps, cond, drop, drop_at, drop_more, dropped, false, false_from_ne_true, filter, get_or, get_or-take, get_or_append_left, holds, inl, inr, is_hidden_in, is_lt, length, length-take, lt-ltb, map, marked, nat_lt, not, position_cmp, rectangle, refl, same_place, sized, subst, suc, sym, take, true, unless_held, ℕ}
 use Rattle.tabled_grid.proofs.SortedEntries.{Below, both, halves, less}
-use Rattle.tabled_grid.proofs.SpanMaps.{holds-true, same_place-self}
-use Rattle.tabled_grid.proofs.PassedAnchors.{Earlier, earlier, places_apart, sorted_drop}
+use Rattle.tabled_grid.proofs.SpanMaps.{same_place-self}
+use Rattle.tabled_grid.proofs.Rectangles.{holds-true}
+use Rattle.tabled_grid.proofs.Order.{before-less}
+use Rattle.tabled_grid.proofs.PassedAnchors.{places_apart, sorted_drop}
 
 -- a mark keeps the place
 place_kept : (by e : Rectangle) → (unless_held by e).first ≡ e.first
@@ -52,42 +53,42 @@ has_size e = nat_lt 0 e.size.height
 
 sized_held : (by : Rectangle) (es : List Rectangle) → filter has_size (map (unless_held by) es) ≡ filter (λ (e : Rectangle). not (holds by e.first)) (filter has_size es)
 sized_held by [] = refl
-sized_held by (e ∷ es) = either (holds by e.first) refl (has_size e) refl (sized_held by es)
+sized_held by (e ∷ es) = tested (holds by e.first) refl (has_size e) refl (sized_held by es)
   where
-    either : (b : Bool) → holds by e.first ≡ b → (s : Bool) → has_size e ≡ s → filter has_size (map (unless_held by) es) ≡ filter (λ (f : Rectangle). not (holds by f.first)) (filter has_size es) → filter has_size (cond b (rectangle e.first (sized 0 0)) e ∷ map (unless_held by) es) ≡ filter (λ (f : Rectangle). not (holds by f.first)) (cond s (e ∷ filter has_size es) (filter has_size es))
-    either true is true has go = rw is go
-    either true is false has go = go
-    either false is true has go = rw (is, has) (ap (λ fs. e ∷ fs) go)
-    either false is false has go = rw has go
+    tested : (b : Bool) → holds by e.first ≡ b → (s : Bool) → has_size e ≡ s → filter has_size (map (unless_held by) es) ≡ filter (λ (f : Rectangle). not (holds by f.first)) (filter has_size es) → filter has_size (cond b (rectangle e.first (sized 0 0)) e ∷ map (unless_held by) es) ≡ filter (λ (f : Rectangle). not (holds by f.first)) (cond s (e ∷ filter has_size es) (filter has_size es))
+    tested true is true has go = rw is go
+    tested true is false has go = go
+    tested false is true has go = rw (is, has) (ap (λ fs. e ∷ fs) go)
+    tested false is false has go = rw has go
 
 -- an anchor's rectangle and other tests, of anchors that come after it
 hidden_later : (h : Position → Bool) (e : Rectangle) (fs : List Rectangle) → Below e.first fs → filter (λ (f : Rectangle). not ((holds e f.first && not (same_place e.first f.first)) || h f.first)) fs ≡ filter (λ (f : Rectangle). not (holds e f.first)) (filter (λ (f : Rectangle). not (h f.first)) fs)
 hidden_later h e [] below = refl
-hidden_later h e (f ∷ fs) below = either (holds e f.first) refl (h f.first) refl (places_apart e.first f.first (less _ (halves _ _ below).0)).0 (hidden_later h e fs (halves _ _ below).1)
+hidden_later h e (f ∷ fs) below = tested (holds e f.first) refl (h f.first) refl (places_apart e.first f.first (less _ (halves _ _ below).0)).0 (hidden_later h e fs (halves _ _ below).1)
   where
     rest : List Rectangle → List Rectangle
     rest gs = filter (λ (g : Rectangle). not ((holds e g.first && not (same_place e.first g.first)) || h g.first)) gs
 
-    either : (b : Bool) → holds e f.first ≡ b → (s : Bool) → h f.first ≡ s → same_place e.first f.first ≡ false → filter (λ (g : Rectangle). not ((holds e g.first && not (same_place e.first g.first)) || h g.first)) fs ≡ filter (λ (g : Rectangle). not (holds e g.first)) (filter (λ (g : Rectangle). not (h g.first)) fs) →
+    tested : (b : Bool) → holds e f.first ≡ b → (s : Bool) → h f.first ≡ s → same_place e.first f.first ≡ false → filter (λ (g : Rectangle). not ((holds e g.first && not (same_place e.first g.first)) || h g.first)) fs ≡ filter (λ (g : Rectangle). not (holds e g.first)) (filter (λ (g : Rectangle). not (h g.first)) fs) →
         cond (not ((b && not (same_place e.first f.first)) || s)) (f ∷ filter (λ (g : Rectangle). not ((holds e g.first && not (same_place e.first g.first)) || h g.first)) fs) (filter (λ (g : Rectangle). not ((holds e g.first && not (same_place e.first g.first)) || h g.first)) fs) ≡ filter (λ (g : Rectangle). not (holds e g.first)) (cond (not s) (f ∷ filter (λ (g : Rectangle). not (h g.first)) fs) (filter (λ (g : Rectangle). not (h g.first)) fs))
-    either true is true hid same go = rw same go
-    either true is false hid same go = rw (same, is) go
-    either false is true hid same go = go
-    either false is false hid same go = rw is (ap (λ gs. f ∷ gs) go)
+    tested true is true hid same go = rw same go
+    tested true is false hid same go = rw (same, is) go
+    tested false is true hid same go = go
+    tested false is false hid same go = rw is (ap (λ gs. f ∷ gs) go)
 
 -- nothing that comes later holds a place
 none_later : (p : Position) (es : List Rectangle) → Below p es → is_hidden_in es p ≡ false
 none_later p [] below = refl
-none_later p (e ∷ es) below = ap (λ b. (b && not (same_place e.first p)) || is_hidden_in es p) (out (earlier p e.first (less _ (halves _ _ below).0))) ∙ none_later p es (halves _ _ below).1
+none_later p (e ∷ es) below = ap (λ b. (b && not (same_place e.first p)) || is_hidden_in es p) (out (before-less p e.first (less _ (halves _ _ below).0))) ∙ none_later p es (halves _ _ below).1
   where
-    not_in : Earlier p e.first → In e p → ⊥
+    not_in : IsBefore p e.first → In e p → ⊥
     not_in (inl l) h = omega (arith, h.top)
     not_in (inr l) h = omega (arith, h.left)
 
-    out : Earlier p e.first → holds e p ≡ false
+    out : IsBefore p e.first → holds e p ≡ false
     out l = false_from_ne_true _ (λ t. not_in l (holds-true e p t))
 
-pub sized_marked : (es : List Rectangle) → AreSorted es → AllByRecursion (λ (e : Rectangle). IsSpanSize e.size) es → filter has_size (marked es) ≡ dropped es
+pub sized_marked : (es : List Rectangle) → AreSorted es → AllByRecursion (λ (e : Rectangle). IsSpan e.size) es → filter has_size (marked es) ≡ dropped es
 sized_marked [] up sizes = refl
 sized_marked (e ∷ es) up sizes =
     let rest = sized_marked es (halves _ _ up).1 sizes.1 in
@@ -95,11 +96,7 @@ sized_marked (e ∷ es) up sizes =
     (ap (λ fs. e ∷ fs) (sym (hidden_later (is_hidden_in es) e es (halves _ _ up).0)) ∙ sym shown)
   where
     self : (holds e e.first && not (same_place e.first e.first)) ≡ false
-    self = rw (same_place-self e.first) (either (holds e e.first))
-      where
-        either : (b : Bool) → (b && false) ≡ false
-        either true = refl
-        either false = refl
+    self = rw (same_place-self e.first) (and_right (holds e e.first) false refl)
 
     shown : dropped (e ∷ es) ≡ e ∷ filter (λ (f : Rectangle). not (is_hidden_in (e ∷ es) f.first)) es
     shown = ap (λ b. cond (not b) (e ∷ filter (λ (f : Rectangle). not (is_hidden_in (e ∷ es) f.first)) es) (filter (λ (f : Rectangle). not (is_hidden_in (e ∷ es) f.first)) es)) (ap₂ (λ a b. a || b) self (none_later e.first es (halves _ _ up).0))

@@ -1,7 +1,8 @@
 -- What stands in a list, and what a map of a list of rectangles finds.
-use Rattle.tabled_grid.proofs.Common.{[], ◌++◌, ◌+◌, ◌-◌, ◌<◌, ◌∙◌, ◌∷◌, ◌≡◌, ◌≤◌, ◌⊎◌, AreSorted, Bool, Less, List, Position, Rectangle, Size, Some, T, and_from, and_parts, ap, ap₂, arith, block, cases_Bool, cases_eq, common_steps, cond, false, filter, flat_map, inl, inr, is_eq, is_lt, list_all, list_any, map, none-some, or_cases, or_left, or_right, place, position_cmp, range_with_len, rectangle, refl, row_places, same_Some, subst, suc, sym, tied_itself, true, zero, ℕ}
-use Rattle.tabled_grid.proofs.SortedEntries.{Below, above, both, find_at, halves, less, positions_exact, positions_total}
+use Rattle.tabled_grid.proofs.Common.{[], ◌++◌, ◌+◌, ◌-◌, ◌<◌, ◌∙◌, ◌∷◌, ◌≡◌, ◌≤◌, ◌⊎◌, All-from_recursion, All-permutation, AllByRecursion, AreSorted, Bool, IsPermutation, Less, List, Position, Rectangle, Size, Some, SpanMap, and_from, and_parts, ap, ap₂, arith, block, cases_eq, common_steps, cond, false, filter, flat_map, get, inl, inr, is_eq, list_all, list_any, map, none-some, or_cases, or_left, or_right, place, position_cmp, range_with_len, rectangle, rectangles, recursion_from_All, refl, row_places, same_Some, subst, suc, sym, tied_itself, true, zero, ℕ}
+use Rattle.tabled_grid.proofs.SortedEntries.{Below, above, both, find_at, get-rectangles, halves, less, positions_exact, positions_total, rectangles_sorted}
 use Rattle.tabled_grid.proofs.SpanMaps.{equal}
+use Rattle.std.proofs.lemmas.List.Sorted.{IsPermutation-sym}
 
 abbrev pub Member : {A : Type 0} → A → List A → Type 0
 Member x [] = ⊥
@@ -10,11 +11,8 @@ Member x (y ∷ ys) = (x ≡ y) ⊎ Member x ys
 module _ {A : Type 0} (test : A → Bool) where
   pub all-member : (x : A) (ys : List A) → list_all test ys ≡ true → Member x ys → test x ≡ true
   all-member x [] all none = absurd none
-  all-member x (y ∷ ys) all here = by here (and_parts (test y) (list_all test ys) all) (all-member x ys)
-    where
-      by : (x ≡ y) ⊎ Member x ys → (test y ≡ true) × (list_all test ys ≡ true) → (list_all test ys ≡ true → Member x ys → test x ≡ true) → test x ≡ true
-      by (inl e) parts go = ap test e ∙ parts.0
-      by (inr m) parts go = go parts.1 m
+  all-member x (y ∷ ys) all (inl e) = ap test e ∙ (and_parts (test y) (list_all test ys) all).0
+  all-member x (y ∷ ys) all (inr m) = all-member x ys (and_parts (test y) (list_all test ys) all).1 m
 
   pub all-from : (ys : List A) → ((x : A) → Member x ys → test x ≡ true) → list_all test ys ≡ true
   all-from [] each = refl
@@ -22,41 +20,26 @@ module _ {A : Type 0} (test : A → Bool) where
 
   pub any-member : (ys : List A) → list_any test ys ≡ true → (x : A) × Member x ys × (test x ≡ true)
   any-member [] any = cc
-  any-member (y ∷ ys) any = by (or_cases (test y) (list_any test ys) any) (any-member ys)
-    where
-      by : (test y ≡ true) ⊎ (list_any test ys ≡ true) → (list_any test ys ≡ true → (x : A) × Member x ys × (test x ≡ true)) → (x : A) × Member x (y ∷ ys) × (test x ≡ true)
-      by (inl t) go = (y, inl refl, t)
-      by (inr later) go = let m = go later in (m.0, inr m.1, m.2)
+  any-member (y ∷ ys) any = elim (or_cases (test y) (list_any test ys) any) [ inl t ↦ (y, inl refl, t) | inr later ↦ let rest = any-member ys later in (rest.0, inr rest.1, rest.2) ]
 
   pub any-from : (x : A) (ys : List A) → Member x ys → test x ≡ true → list_any test ys ≡ true
   any-from x [] none t = absurd none
-  any-from x (y ∷ ys) here t = by here (any-from x ys)
-    where
-      by : (x ≡ y) ⊎ Member x ys → (Member x ys → test x ≡ true → list_any test ys ≡ true) → list_any test (y ∷ ys) ≡ true
-      by (inl e) go = or_left (test y) (list_any test ys) (ap test (sym e) ∙ t)
-      by (inr m) go = or_right (test y) (list_any test ys) (go m t)
+  any-from x (y ∷ ys) (inl e) t = or_left (test y) (list_any test ys) (ap test (sym e) ∙ t)
+  any-from x (y ∷ ys) (inr m) t = or_right (test y) (list_any test ys) (any-from x ys m t)
 
   pub filter-member : (x : A) (ys : List A) → Member x (filter test ys) → Member x ys × (test x ≡ true)
   filter-member x [] none = absurd none
-  filter-member x (y ∷ ys) here = by (cases_Bool (test y)) (filter-member x ys)
+  filter-member x (y ∷ ys) here = of_kept (test y) refl here (filter-member x ys)
     where
-      of_first : (x ≡ y) ⊎ Member x (filter test ys) → test y ≡ true → (Member x (filter test ys) → Member x ys × (test x ≡ true)) → Member x (y ∷ ys) × (test x ≡ true)
-      of_first (inl e) t go = (inl e, ap test e ∙ t)
-      of_first (inr m) t go = let rest = go m in (inr rest.0, rest.1)
-
-      by : (test y ≡ true) ⊎ (test y ≡ false) → (Member x (filter test ys) → Member x ys × (test x ≡ true)) → Member x (y ∷ ys) × (test x ≡ true)
-      by (inl t) go = of_first (subst (λ b. Member x (cond b (y ∷ filter test ys) (filter test ys))) t here) t go
-      by (inr f) go = let rest = go (subst (λ b. Member x (cond b (y ∷ filter test ys) (filter test ys))) f here) in (inr rest.0, rest.1)
+      of_kept : (b : Bool) → test y ≡ b → Member x (cond b (y ∷ filter test ys) (filter test ys)) → (Member x (filter test ys) → Member x ys × (test x ≡ true)) → Member x (y ∷ ys) × (test x ≡ true)
+      of_kept true t (inl e) later = (inl e, ap test e ∙ t)
+      of_kept true t (inr m) later = let rest = later m in (inr rest.0, rest.1)
+      of_kept false t m later = let rest = later m in (inr rest.0, rest.1)
 
   pub filter-from : (x : A) (ys : List A) → Member x ys → test x ≡ true → Member x (filter test ys)
   filter-from x [] none t = absurd none
-  filter-from x (y ∷ ys) here t = by here (cases_Bool (test y)) (filter-from x ys)
-    where
-      by : (x ≡ y) ⊎ Member x ys → (test y ≡ true) ⊎ (test y ≡ false) → (Member x ys → test x ≡ true → Member x (filter test ys)) → Member x (filter test (y ∷ ys))
-      by (inl e) (inl b) go = let P : Bool → Type 0 = λ b. Member x (cond b (y ∷ filter test ys) (filter test ys)) in subst P (sym b) (inl e)
-      by (inl e) (inr b) go = let never : true ≡ false = sym t ∙ ap test e ∙ b in cc
-      by (inr m) (inl b) go = let P : Bool → Type 0 = λ b. Member x (cond b (y ∷ filter test ys) (filter test ys)) in subst P (sym b) (inr (go m t))
-      by (inr m) (inr b) go = let P : Bool → Type 0 = λ b. Member x (cond b (y ∷ filter test ys) (filter test ys)) in subst P (sym b) (go m t)
+  filter-from x (y ∷ ys) (inl e) t = rw (ap test (sym e) ∙ t) (inl e)
+  filter-from x (y ∷ ys) (inr m) t = let rest = filter-from x ys m t in elim (test y) as (λ b. Member x (cond b (y ∷ filter test ys) (filter test ys))) [ true ↦ inr rest | false ↦ rest ]
 
 module _ {A : Type 0} (x : A) where
   pub member-left : (xs ys : List A) → Member x xs → Member x (xs ++ ys)
@@ -71,11 +54,21 @@ module _ {A : Type 0} (x : A) where
   pub member-either : (xs ys : List A) → Member x (xs ++ ys) → Member x xs ⊎ Member x ys
   member-either [] ys m = inr m
   member-either (y ∷ xs) ys (inl e) = inl (inl e)
-  member-either (y ∷ xs) ys (inr m) = by (member-either xs ys m)
-    where
-      by : Member x xs ⊎ Member x ys → Member x (y ∷ xs) ⊎ Member x ys
-      by (inl h) = inl (inr h)
-      by (inr h) = inr h
+  member-either (y ∷ xs) ys (inr m) = elim (member-either xs ys m) [ inl h ↦ inl (inr h) | inr h ↦ inr h ]
+
+-- what holds of each of a list, and the way back
+pub all-of : {A : Type 0} (P : A → Type 0) (xs : List A) → ((x : A) → Member x xs → P x) → AllByRecursion P xs
+all-of P [] each = tt
+all-of P (x ∷ xs) each = (each x (inl refl), all-of P xs (λ y m. each y (inr m)))
+
+pub of-all : {A : Type 0} (P : A → Type 0) (xs : List A) → AllByRecursion P xs → (x : A) → Member x xs → P x
+of-all P [] all x none = absurd none
+of-all P (y ∷ ys) all x (inl is) = subst P (sym is) all.0
+of-all P (y ∷ ys) all x (inr m) = of-all P ys all.1 x m
+
+-- a list in another order has the same members
+pub member-moved : {A : Type 0} (x : A) (xs ys : List A) → IsPermutation xs ys → Member x xs → Member x ys
+member-moved {A} x xs ys moved = of-all (λ (y : A). Member y ys) xs (recursion_from_All _ xs (All-permutation (λ (y : A). Member y ys) ys xs (IsPermutation-sym xs ys moved) (All-from_recursion _ ys (all-of (λ (y : A). Member y ys) ys (λ y m. m))))) x
 
 module _ {A B : Type 0} where
   pub map-from : (f : A → B) (x : A) (xs : List A) → Member x xs → Member (f x) (map f xs)
@@ -95,11 +88,7 @@ module _ {A B : Type 0} where
 
   pub flat_map-member : (f : A → List B) (z : B) (xs : List A) → Member z (flat_map f xs) → (x : A) × Member x xs × Member z (f x)
   flat_map-member f z [] none = absurd none
-  flat_map-member f z (y ∷ xs) m = by (member-either z (f y) (flat_map f xs) m) (flat_map-member f z xs)
-    where
-      by : Member z (f y) ⊎ Member z (flat_map f xs) → (Member z (flat_map f xs) → (x : A) × Member x xs × Member z (f x)) → (x : A) × Member x (y ∷ xs) × Member z (f x)
-      by (inl h) go = (y, inl refl, h)
-      by (inr h) go = let rest = go h in (rest.0, inr rest.1, rest.2)
+  flat_map-member f z (y ∷ xs) m = elim (member-either z (f y) (flat_map f xs) m) [ inl h ↦ (y, inl refl, h) | inr h ↦ let rest = flat_map-member f z xs h in (rest.0, inr rest.1, rest.2) ]
 
 pub range-member : (i a n : ℕ) → Member i (range_with_len a n) → (a ≤ i) × (i < a + n)
 range-member i a zero none = absurd none
@@ -108,11 +97,7 @@ range-member i a (suc n) (inr m) = let rest = range-member i (a + 1) n m in (ome
 
 pub range-from : (i a n : ℕ) → a ≤ i → i < a + n → Member i (range_with_len a n)
 range-from i a zero low high = absurd (omega arith)
-range-from i a (suc n) low high = by (cases_eq i a) (λ l h. range-from i (a + 1) n l h)
-  where
-    by : (i ≡ a) ⊎ (i ≡ a → ⊥) → (a + 1 ≤ i → i < (a + 1) + n → Member i (range_with_len (a + 1) n)) → Member i (range_with_len a (suc n))
-    by (inl e) go = inl e
-    by (inr apart) go = inr (go (omega (arith, apart)) (omega arith))
+range-from i a (suc n) low high = elim (cases_eq i a) [ inl e ↦ inl e | inr apart ↦ inr (range-from i (a + 1) n (omega (arith, apart)) (omega arith)) ]
 
 -- a place is in a block of rows a to b and columns c to d, without b and d
 pub record InBlock (a b c d : ℕ) (p : Position) : Type 0 where
@@ -134,23 +119,17 @@ block-from a b c d p h =
 -- what a map finds at a place stands in the list of its rectangles
 pub find-member : (es : List Rectangle) (p : Position) (size : Size) → find_at p es ≡ Some size → Member (rectangle p size) es
 find-member [] p size is = absurd (none-some size is)
-find-member (e ∷ es) p size is = by (cases_Bool (is_eq (position_cmp p e.first))) (find-member es p size)
+find-member (e ∷ es) p size is = of_first (is_eq (position_cmp p e.first)) refl is (find-member es p size)
   where
-    by : (is_eq (position_cmp p e.first) ≡ true) ⊎ (is_eq (position_cmp p e.first) ≡ false) → (find_at p es ≡ Some size → Member (rectangle p size) es) → Member (rectangle p size) (e ∷ es)
-    by (inl t) go = inl (ap₂ rectangle (positions_exact p e.first (equal _ t)) (sym (same_Some _ _ (sym (ap (λ c. cond c (Some e.size) (find_at p es)) t) ∙ is))))
-    by (inr f) go = inr (go (subst (λ b. cond b (Some e.size) (find_at p es) ≡ Some size) f is))
+    of_first : (b : Bool) → is_eq (position_cmp p e.first) ≡ b → cond b (Some e.size) (find_at p es) ≡ Some size → (find_at p es ≡ Some size → Member (rectangle p size) es) → Member (rectangle p size) (e ∷ es)
+    of_first true t is later = inl (ap₂ rectangle (positions_exact p e.first (equal _ t)) (sym (same_Some _ _ is)))
+    of_first false f is later = inr (later is)
 
 -- at the anchor of a rectangle of a list one is found
 pub member-find : (es : List Rectangle) (f : Rectangle) → Member f es → (w : Size) × (find_at f.first es ≡ Some w)
 member-find [] f none = absurd none
-member-find (e ∷ es) f here = by here (cases_Bool (is_eq (position_cmp f.first e.first))) (member-find es f)
-  where
-    by : (f ≡ e) ⊎ Member f es → (is_eq (position_cmp f.first e.first) ≡ true) ⊎ (is_eq (position_cmp f.first e.first) ≡ false) → (Member f es → (w : Size) × (find_at f.first es ≡ Some w)) → (w : Size) × (find_at f.first (e ∷ es) ≡ Some w)
-    by m (inl t) go = (e.size, ap (λ c. cond c (Some e.size) (find_at f.first es)) t)
-    by (inl same) (inr n) go =
-        let tied : is_eq (position_cmp f.first e.first) ≡ true = ap (λ (y : Rectangle). is_eq (position_cmp f.first y.first)) (sym same) ∙ ap is_eq (tied_itself positions_total f.first) in
-        let never : true ≡ false = sym tied ∙ n in cc
-    by (inr m) (inr n) go = let rest = go m in (rest.0, ap (λ c. cond c (Some e.size) (find_at f.first es)) n ∙ rest.1)
+member-find (e ∷ es) f (inl same) = (e.size, ap (λ (y : Rectangle). cond (is_eq (position_cmp y.first e.first)) (Some e.size) (find_at y.first es)) same ∙ ap (λ r. cond (is_eq r) (Some e.size) (find_at e.first es)) (tied_itself positions_total e.first))
+member-find (e ∷ es) f (inr m) = let rest = member-find es f m in elim (is_eq (position_cmp f.first e.first)) as (λ b. (w : Size) × (cond b (Some e.size) (find_at f.first es) ≡ Some w)) [ true ↦ (e.size, refl) | false ↦ rest ]
 
 pub below-member : (p : Position) (es : List Rectangle) (f : Rectangle) → Below p es → Member f es → position_cmp p f.first ≡ Less
 below-member p [] f below none = absurd none
@@ -163,18 +142,21 @@ sorted-find [] f up none = absurd none
 sorted-find (e ∷ es) f up (inl same) = subst (λ (g : Rectangle). find_at g.first (e ∷ es) ≡ Some g.size) (sym same) (ap (λ r. cond (is_eq r) (Some e.size) (find_at e.first es)) (tied_itself positions_total e.first))
 sorted-find (e ∷ es) f up (inr m) = ap (λ r. cond (is_eq r) (Some e.size) (find_at f.first es)) (above e.first f.first (below-member e.first es f (halves _ _ up).0 m)) ∙ sorted-find es f (halves _ _ up).1 m
 
+-- a map has the rectangles of its list, and no others
+pub member-get : (m : SpanMap) (e : Rectangle) → Member e (rectangles m) → get m e.first ≡ Some e.size
+member-get m e i = get-rectangles m e.first ∙ sorted-find (rectangles m) e (rectangles_sorted m) i
+
+pub get-member : (m : SpanMap) (e : Rectangle) → get m e.first ≡ Some e.size → Member e (rectangles m)
+get-member m e is = find-member (rectangles m) e.first e.size (sym (get-rectangles m e.first) ∙ is)
+
 below-filter : (test : Rectangle → Bool) (p : Position) (es : List Rectangle) → Below p es → Below p (filter test es)
 below-filter test p [] below = tt
-below-filter test p (e ∷ es) below = by (test e) (halves _ _ below) (below-filter test p es)
-  where
-    by : (b : Bool) → T (is_lt (position_cmp p e.first)) × Below p es → (Below p es → Below p (filter test es)) → Below p (cond b (e ∷ filter test es) (filter test es))
-    by true parts go = both _ _ parts.0 (go parts.1)
-    by false parts go = go parts.1
+below-filter test p (e ∷ es) below =
+    let rest = below-filter test p es (halves _ _ below).1 in
+    elim (test e) as (λ b. Below p (cond b (e ∷ filter test es) (filter test es))) [ true ↦ both _ _ (halves _ _ below).0 rest | false ↦ rest ]
 
 pub sorted-filter : (test : Rectangle → Bool) (es : List Rectangle) → AreSorted es → AreSorted (filter test es)
 sorted-filter test [] up = tt
-sorted-filter test (e ∷ es) up = by (test e) (halves _ _ up) (sorted-filter test es)
-  where
-    by : (b : Bool) → Below e.first es × AreSorted es → (AreSorted es → AreSorted (filter test es)) → AreSorted (cond b (e ∷ filter test es) (filter test es))
-    by true parts go = both _ _ (below-filter test e.first es parts.0) (go parts.1)
-    by false parts go = go parts.1
+sorted-filter test (e ∷ es) up =
+    let rest = sorted-filter test es (halves _ _ up).1 in
+    elim (test e) as (λ b. AreSorted (cond b (e ∷ filter test es) (filter test es))) [ true ↦ both _ _ (below-filter test e.first es (halves _ _ up).0) rest | false ↦ rest ]

@@ -1,8 +1,8 @@
 -- Sorted anchors and sorted sizes, merged from the front.
-use Rattle.tabled_grid.proofs.Common.{[], ◌++◌, ◌+◌, ◌<◌, ◌∙◌, ◌∷◌, ◌≡◌, ◌≤◌, ◌⊎◌, AllByRecursion, AreAnchors, AreSorted, Bool, Equal, Greater, IsSizeAt, IsSpanSize, Less, List, Ordering, Position, Rectangle, T, anchor_of, and_from, and_parts, ap, append_assoc, arith, cases_Bool, cases_lt, common_steps, cond, drop, drop-cons, drop_more, drop_of_length-le, eq_by_cmp, false, false_from_ne_true, filter, get_or, inl, inr, is_cell, is_eq, is_lt, is_span, length, map_of, not, of_pairs, ordering_reverse, pairs, position_cmp, put, rectangle, refl, subst, sym, true, with_size, with_size_in, with_sizes, with_sizes_in, without_first_at, ℕ}
+use Rattle.tabled_grid.proofs.Common.{[], ◌++◌, ◌+◌, ◌<◌, ◌∙◌, ◌∷◌, ◌≡◌, ◌≤◌, AllByRecursion, AreAnchors, AreSorted, Bool, Equal, Greater, HasArea, IsSpan, Less, List, Ordering, Position, Rectangle, T, anchor_of, and_from, and_parts, ap, append_assoc, arith, cases_Bool, cases_lt, common_steps, cond, drop, drop-cons, drop_more, drop_of_length-le, elsewhere, eq_by_cmp, false, false_from_ne_true, filter, get_or, inl, inr, is_cell, is_eq, is_lt, is_span, length, map_of, not, of_pairs, ordering_reverse, pairs, position_cmp, put, rectangle, refl, subst, sym, true, with_size, with_size_in, with_sizes, with_sizes_in, without_first_at, ℕ}
 use borrow.Author.Tests.{eqb-true}
 use Rattle.tabled_grid.proofs.Spans.{Makes, with_anchor, without_anchor}
-use Rattle.tabled_grid.proofs.SortedEntries.{Below, above, both, elsewhere, filter_anchors, halves, is_less, less, of_pairs-pairs, pairs-of_pairs, positions_exact, positions_total, put_anchors, span-from, span-true}
+use Rattle.tabled_grid.proofs.SortedEntries.{Below, above, both, filter_anchors, halves, is_less, less, of_pairs-pairs, pairs-of_pairs, positions_exact, positions_total, put_anchors, span-from, span-true}
 
 is_one : Rectangle → Bool
 is_one c = is_cell c.size
@@ -22,11 +22,10 @@ below_more p q (e ∷ es) h b = let parts = halves _ _ b in both _ _ (is_less _ 
 -- a size at a place after the first anchor leaves that anchor first
 after_first : (e c : Rectangle) (es : List Rectangle) → position_cmp e.first c.first ≡ Less → with_size_in (e ∷ es) c ≡ e ∷ with_size_in es c
 unfolding is_one differs
-after_first e c es h = either (cases_Bool (is_one c))
-  where
-    either : (is_one c ≡ true) ⊎ (is_one c ≡ false) → with_size_in (e ∷ es) c ≡ e ∷ with_size_in es c
-    either (inl t) = rw (t, above e.first c.first h) refl
-    either (inr f) = rw (f, above e.first c.first h) refl
+after_first e c es h = elim (cases_Bool (is_one c)) [
+  | inl t ↦ rw (t, above e.first c.first h) refl
+  | inr f ↦ rw (f, above e.first c.first h) refl
+]
 
 -- sizes after the first anchor leave it first
 pub first_stays : (e : Rectangle) (es sizes : List Rectangle) → Below e.first sizes → with_sizes_in (e ∷ es) sizes ≡ e ∷ with_sizes_in es sizes
@@ -47,20 +46,22 @@ none_at p (e ∷ es) b =
 -- a size before all anchors
 pub before : (c : Rectangle) (es : List Rectangle) → Below c.first es → with_size_in es c ≡ kept c es
 unfolding kept is_one differs
-before c es b = either (cases_Bool (is_one c))
+before c es b = elim (cases_Bool (is_one c)) [
+  | inl t ↦ rw t (none_at c.first es b)
+  | inr f ↦ rw f (ap of_pairs (put_first es b) ∙ of_pairs-pairs (c ∷ es))
+]
   where
     put_first : (xs : List Rectangle) → Below c.first xs → put position_cmp c.first c.size (pairs xs) ≡ pairs (c ∷ xs)
     put_first [] below = refl
     put_first (x ∷ xs) below = let first : position_cmp c.first x.first ≡ Less = less _ (halves _ _ below).0 in rw first refl
 
-    either : (is_one c ≡ true) ⊎ (is_one c ≡ false) → with_size_in es c ≡ kept c es
-    either (inl t) = rw t (none_at c.first es b)
-    either (inr f) = rw f (ap of_pairs (put_first es b) ∙ of_pairs-pairs (c ∷ es))
-
 -- a size at the place of the first anchor
 pub here : (c e : Rectangle) (es : List Rectangle) → position_cmp e.first c.first ≡ Equal → Below e.first es → with_size_in (e ∷ es) c ≡ kept c es
 unfolding kept is_one differs
-here c e es same b = either (cases_Bool (is_one c))
+here c e es same b = elim (cases_Bool (is_one c)) [
+  | inl t ↦ rw (t, tied) (none_at c.first es (subst (λ p. Below p es) at b))
+  | inr f ↦ rw (f, tied) (ap (λ p. rectangle p c.size ∷ of_pairs (pairs es)) at ∙ of_pairs-pairs (c ∷ es))
+]
   where
     at : e.first ≡ c.first
     at = positions_exact e.first c.first same
@@ -68,27 +69,21 @@ here c e es same b = either (cases_Bool (is_one c))
     tied : position_cmp c.first e.first ≡ Equal
     tied = positions_total.antisymm c.first e.first ∙ ap ordering_reverse same
 
-    either : (is_one c ≡ true) ⊎ (is_one c ≡ false) → with_size_in (e ∷ es) c ≡ kept c es
-    either (inl t) = rw (t, tied) (none_at c.first es (subst (λ p. Below p es) at b))
-    either (inr f) = rw (f, tied) (ap (λ p. rectangle p c.size ∷ of_pairs (pairs es)) at ∙ of_pairs-pairs (c ∷ es))
-
 -- what is kept of a size stands in front of what follows
 behind : (c : Rectangle) (merged rest : List Rectangle) → (merged ++ anchor_of c) ++ rest ≡ merged ++ kept c rest
 unfolding kept is_one
-behind c merged rest = either (cases_Bool (is_one c))
-  where
-    either : (is_one c ≡ true) ⊎ (is_one c ≡ false) → (merged ++ anchor_of c) ++ rest ≡ merged ++ kept c rest
-    either (inl t) = rw t (append_assoc merged [] rest)
-    either (inr f) = rw f (append_assoc merged (c ∷ []) rest)
+behind c merged rest = elim (cases_Bool (is_one c)) [
+  | inl t ↦ rw t (append_assoc merged [] rest)
+  | inr f ↦ rw f (append_assoc merged (c ∷ []) rest)
+]
 
 -- sizes after one that was set leave it first
 pub kept_stays : (c : Rectangle) (es sizes : List Rectangle) → Below c.first sizes → with_sizes_in (kept c es) sizes ≡ kept c (with_sizes_in es sizes)
 unfolding kept
-kept_stays c es sizes b = either (cases_Bool (is_one c))
-  where
-    either : (is_one c ≡ true) ⊎ (is_one c ≡ false) → with_sizes_in (kept c es) sizes ≡ kept c (with_sizes_in es sizes)
-    either (inl t) = rw t refl
-    either (inr f) = rw f (first_stays c es sizes b)
+kept_stays c es sizes b = elim (cases_Bool (is_one c)) [
+  | inl t ↦ rw t refl
+  | inr f ↦ rw f (first_stays c es sizes b)
+]
 
 -- no anchor is before a place, where the first is not
 pub starts_from : Position → List Rectangle → Bool
@@ -99,12 +94,12 @@ starts_from p (e ∷ es) = not (is_lt (position_cmp e.first p))
 at_front : (c : Rectangle) (es : List Rectangle) → AreSorted es → T (starts_from c.first es) → with_size_in es c ≡ kept c (without_first_at c.first es)
 unfolding starts_from
 at_front c [] up from = before c [] tt
-at_front c (e ∷ es) up from = either (position_cmp e.first c.first) refl from
+at_front c (e ∷ es) up from = compared (position_cmp e.first c.first) refl from
   where
-    either : (o : Ordering) → position_cmp e.first c.first ≡ o → T (not (is_lt o)) → with_size_in (e ∷ es) c ≡ kept c (cond (is_eq o) es (e ∷ es))
-    either Less is below = absurd below
-    either Equal is below = here c e es is (halves _ _ up).0
-    either Greater is below =
+    compared : (o : Ordering) → position_cmp e.first c.first ≡ o → T (not (is_lt o)) → with_size_in (e ∷ es) c ≡ kept c (cond (is_eq o) es (e ∷ es))
+    compared Less is below = absurd below
+    compared Equal is below = here c e es is (halves _ _ up).0
+    compared Greater is below =
         let first : position_cmp c.first e.first ≡ Less = positions_total.antisymm c.first e.first ∙ ap ordering_reverse is in
         before c (e ∷ es) (both _ _ (is_less _ first) (below_more c.first e.first es first (halves _ _ up).0))
 
@@ -147,34 +142,28 @@ module _ (merged all_anchors all_sizes : List Rectangle) where
       }
 
 -- a size that is not that of one cell
-span_size : (c : Rectangle) → IsSizeAt c → is_one c ≡ false → IsSpanSize c.size
+span_size : (c : Rectangle) → HasArea c → is_one c ≡ false → IsSpan c.size
 unfolding is_one
-span_size c size other = record { height = size.height; width = size.width; merges = either (cases_lt 1 c.size.height) (cases_lt 1 c.size.width) }
-  where
-    either : (1 < c.size.height) ⊎ (c.size.height ≤ 1) → (1 < c.size.width) ⊎ (c.size.width ≤ 1) → (1 < c.size.height) ⊎ (1 < c.size.width)
-    either (inl h) w = inl h
-    either (inr h) (inl w) = inr w
-    either (inr h) (inr w) = grind (arith, common_steps, and_from)
+span_size c size other = record { height = size.height; width = size.width; merges = elim (cases_lt 1 c.size.height) [ inl h ↦ inl h | inr h ↦ elim (cases_lt 1 c.size.width) [ inl w ↦ inr w | inr w ↦ grind (arith, common_steps, and_from) ] ] }
 
 -- and one that is
 one_span : (c : Rectangle) → is_one c ≡ true → is_span c.size ≡ false
 unfolding is_one
-one_span c t = false_from_ne_true _ (λ u. let parts = and_parts _ _ t in let size = span-true c.size u in either (eqb-true _ _ parts.0) (eqb-true _ _ parts.1) size.merges)
-  where
-    either : c.size.height ≡ 1 → c.size.width ≡ 1 → (1 < c.size.height) ⊎ (1 < c.size.width) → ⊥
-    either tall wide (inl h) = omega (arith, tall)
-    either tall wide (inr h) = omega (arith, wide)
+one_span c t = false_from_ne_true _ (λ u.
+    let parts = and_parts _ _ t in
+    let tall : c.size.height ≡ 1 = eqb-true _ _ parts.0 in
+    let wide : c.size.width ≡ 1 = eqb-true _ _ parts.1 in
+    elim (span-true c.size u).merges [ inl h ↦ omega (arith, tall) | inr h ↦ omega (arith, wide) ])
 
 -- a list of anchors with a size makes the map with that size
-with_size_makes : (es : List Rectangle) (c : Rectangle) → AreAnchors es → IsSizeAt c → Makes (with_size_in es c) (with_size (map_of es) c.first c.size)
+with_size_makes : (es : List Rectangle) (c : Rectangle) → AreAnchors es → HasArea c → Makes (with_size_in es c) (with_size (map_of es) c.first c.size)
 unfolding is_one differs
-with_size_makes es c valid size = either (cases_Bool (is_one c))
-  where
-    either : (is_one c ≡ true) ⊎ (is_one c ≡ false) → Makes (with_size_in es c) (with_size (map_of es) c.first c.size)
-    either (inl t) = rw (one_span c t, t) (without_anchor es valid c.first (elsewhere c.first es) (filter_anchors (differs c.first) es valid).sizes refl)
-    either (inr f) = rw (span-from c.size (span_size c size f), f) (with_anchor es valid c.first (of_pairs (put position_cmp c.first c.size (pairs es))) c.size (put_anchors c.first c.size es (span_size c size f) valid).sizes (pairs-of_pairs _))
+with_size_makes es c valid size = elim (cases_Bool (is_one c)) [
+  | inl t ↦ rw (one_span c t, t) (without_anchor es valid c.first (elsewhere c.first es) (filter_anchors (differs c.first) es valid).sizes refl)
+  | inr f ↦ rw (span-from c.size (span_size c size f), f) (with_anchor es valid c.first (of_pairs (put position_cmp c.first c.size (pairs es))) c.size (put_anchors c.first c.size es (span_size c size f) valid).sizes (pairs-of_pairs _))
+]
 
-pub with_sizes_make : (es sizes : List Rectangle) → AreAnchors es → AllByRecursion IsSizeAt sizes → Makes (with_sizes_in es sizes) (with_sizes (map_of es) sizes)
+pub with_sizes_make : (es sizes : List Rectangle) → AreAnchors es → AllByRecursion HasArea sizes → Makes (with_sizes_in es sizes) (with_sizes (map_of es) sizes)
 with_sizes_make es [] valid all = record { valid = valid; is = refl }
 with_sizes_make es (c ∷ sizes) valid all =
     let one = with_size_makes es c valid all.0 in

@@ -1,15 +1,15 @@
 -- How rectangles lie while spans are set, and once hidden anchors are dropped. What is said of columns is
 -- said of rows with rows and columns exchanged.
-use Rattle.tabled_grid.proofs.Common.{[], ◌+◌, ◌<◌, ◌∙◌, ◌∷◌, ◌≡◌, ◌≢◌, ◌≤◌, ◌⊎◌, AllByRecursion, Fits, IsSpanSize, List, Midway, None, Position, Size, Some, SpanMap, ap, arith, drop_hidden, false, false_from_ne_true, fold, get, holds, inl, inr, is_visible, nat_eq, place, rectangle, refl, rules, size_at, sized, subst, sym, true, with_column_span, with_row_span, with_size, ℕ}
+use Rattle.tabled_grid.proofs.Common.{[], ◌+◌, ◌<◌, ◌∙◌, ◌∷◌, ◌≡◌, ◌≢◌, ◌≤◌, ◌⊎◌, AllByRecursion, Fits, In, IsSpan, LiesInside, List, Midway, None, Position, Rectangle, Size, Some, SpanMap, ap, ap₂, arith, drop_hidden, false, false_from_ne_true, fold, get, inl, inr, is_visible, nat_eq, place, rectangle, refl, rules, size_at, sized, subst, sym, true, with_column_span, with_row_span, with_size, ℕ}
 use borrow.Author.Tests.{eqb-true}
-use Rattle.tabled_grid.proofs.Geometry.{Flat, Hooked, In, Narrow, Widened, LieWithin, cases_place, flat_flipped, flat_widened, flip, flip_size, flipped, full_flipped, hooked_flat, hooked_flipped, hooked_widened, narrow_flipped, visible_flipped, within_flipped, within_widened}
+use Rattle.tabled_grid.proofs.Geometry.{Flat, Hooked, Narrow, Widened, LieWithin, cases_place, flat_flipped, flat_widened, flip, flip_size, flipped, full_flipped, hooked_flat, hooked_flipped, hooked_widened, narrow_flipped, visible_flipped, within_flipped, within_widened}
 use Rattle.tabled_grid.proofs.SortedEntries.{span_at}
-use Rattle.tabled_grid.proofs.SpanMaps.{At, at, full, holds-from, holds-true, kept, kept_or_one, none, size_at-none, size_at-some, size_at-with_size, size_at-with_size-other, some, visible, with_size-other}
+use Rattle.tabled_grid.proofs.SpanMaps.{At, Kept, at, full, kept, kept_or_one, none, size_at-none, size_at-some, size_at-with_size, size_at-with_size-other, some, visible, with_size-other}
 
 -- rectangles that fit
 
 hooked_fits : (m : SpanMap) (rows columns : ℕ) → Fits m rows columns → Hooked (size_at m)
-hooked_fits m rows columns fits = record { hook = λ a b p ha hb. by_anchor a b p ha hb (at m a) (at m b) }
+hooked_fits m rows columns fits = record { hook = λ a b p ha hb. anchored a b p ha hb (at m a) (at m b) }
   where
     alone : (a b p : Position) → get m a ≡ None → In (rectangle a (size_at m a)) p → In (rectangle b (size_at m b)) p → In (rectangle b (size_at m b)) a
     alone a b p e ha hb = let h = rw (size_at-none m a e) at ha in record { top = omega (arith, h.top, h.bottom, hb.top, hb.bottom); bottom = omega (arith, h.top, h.bottom, hb.top, hb.bottom); left = omega (arith, h.left, h.right, hb.left, hb.right); right = omega (arith, h.left, h.right, hb.left, hb.right) }
@@ -17,11 +17,11 @@ hooked_fits m rows columns fits = record { hook = λ a b p ha hb. by_anchor a b 
     itself : (a p : Position) → In (rectangle a (size_at m a)) p → In (rectangle a (size_at m a)) a
     itself a p ha = record { top = omega arith; bottom = omega (arith, ha.top, ha.bottom); left = omega arith; right = omega (arith, ha.left, ha.right) }
 
-    by_anchor : (a b p : Position) → In (rectangle a (size_at m a)) p → In (rectangle b (size_at m b)) p → At m a → At m b → In (rectangle a (size_at m a)) b ⊎ In (rectangle b (size_at m b)) a
-    by_anchor a b p ha hb (none e) c = inr (alone a b p e ha hb)
-    by_anchor a b p ha hb (some s e) (none f) = inl (alone b a p f hb ha)
-    by_anchor a b p ha hb (some s e) (some t f) =
-        let same = fits.apart a b s t p e f (holds-from (rectangle a s) p (rw (size_at-some m a s e) at ha)) (holds-from (rectangle b t) p (rw (size_at-some m b t f) at hb)) in
+    anchored : (a b p : Position) → In (rectangle a (size_at m a)) p → In (rectangle b (size_at m b)) p → At m a → At m b → In (rectangle a (size_at m a)) b ⊎ In (rectangle b (size_at m b)) a
+    anchored a b p ha hb (none e) c = inr (alone a b p e ha hb)
+    anchored a b p ha hb (some s e) (none f) = inl (alone b a p f hb ha)
+    anchored a b p ha hb (some s e) (some t f) =
+        let same = (fits.each (rectangle a s) e).alone (rectangle b t) p f (rw (size_at-some m a s e) at ha) (rw (size_at-some m b t f) at hb) in
         inl (subst (λ (x : Position). In (rectangle a (size_at m a)) x) same (itself a p ha))
 
 -- before the first span is set
@@ -37,32 +37,28 @@ midway m rows columns fits = record {
 
     tall : (a : Position) → At m a → (1 < (size_at m a).height) ⊎ (1 < (size_at m a).width) → a.row + (size_at m a).height ≤ rows
     tall a (none e) h = absurd (one a e h)
-    tall a (some s e) h = rw (size_at-some m a s e) (fits.inside a s e).0
+    tall a (some s e) h = rw (size_at-some m a s e) (fits.each (rectangle a s) e).inside.bottom
 
     wide : (a : Position) → At m a → (1 < (size_at m a).height) ⊎ (1 < (size_at m a).width) → a.col + (size_at m a).width ≤ columns
     wide a (none e) h = absurd (one a e h)
-    wide a (some s e) h = rw (size_at-some m a s e) (fits.inside a s e).1
+    wide a (some s e) h = rw (size_at-some m a s e) (fits.each (rectangle a s) e).inside.right
 
 -- after the last: once hidden anchors are dropped, all at once, the rectangles fit
 pub fits_dropped : (m : SpanMap) (rows columns : ℕ) → Midway m rows columns → Fits (drop_hidden m) rows columns
-fits_dropped m rows columns mid = record { inside = inside_at; apart = apart }
+fits_dropped m rows columns mid = record { each = λ e is. record { inside = inside e (kept m e.first e.size is); alone = λ f p js i j. alone e f p (kept m e.first e.size is) (kept m f.first f.size js) i j } }
   where
-    inside_at : (a : Position) (size : Size) → get (drop_hidden m) a ≡ Some size → (a.row + size.height ≤ rows) × (a.col + size.width ≤ columns)
-    inside_at a size has =
-        let was = kept m a size has in
-        let is = size_at-some m a size was.had in
-        let more = (span_at m a size was.had).merges in
-        (subst (λ (s : Size). a.row + s.height ≤ rows) is (mid.within.tall a (rw is more)), subst (λ (s : Size). a.col + s.width ≤ columns) is (mid.within.wide a (rw is more)))
+    inside : (e : Rectangle) → Kept m e.first e.size → LiesInside rows columns e
+    inside e was =
+        let is = size_at-some m e.first e.size was.had in
+        let more = (span_at m e.first e.size was.had).merges in
+        record { bottom = subst (λ (s : Size). e.first.row + s.height ≤ rows) is (mid.within.tall e.first (rw is more)); right = subst (λ (s : Size). e.first.col + s.width ≤ columns) is (mid.within.wide e.first (rw is more)) }
 
-    by_hook : (a b : Position) → is_visible m a ≡ true → is_visible m b ≡ true → In (rectangle a (size_at m a)) b ⊎ In (rectangle b (size_at m b)) a → a ≡ b
-    by_hook a b sa sb (inl h) = visible m b sb a h
-    by_hook a b sa sb (inr h) = sym (visible m a sa b h)
+    in_one : (a b : Position) → is_visible m a ≡ true → is_visible m b ≡ true → In (rectangle a (size_at m a)) b ⊎ In (rectangle b (size_at m b)) a → a ≡ b
+    in_one a b sa sb (inl h) = visible m b sb a h
+    in_one a b sa sb (inr h) = sym (visible m a sa b h)
 
-    apart : (a b : Position) (s t : Size) (p : Position) → get (drop_hidden m) a ≡ Some s → get (drop_hidden m) b ≡ Some t → holds (rectangle a s) p ≡ true → holds (rectangle b t) p ≡ true → a ≡ b
-    apart a b s t p ha hb ia ib =
-        let ka = kept m a s ha in
-        let kb = kept m b t hb in
-        by_hook a b ka.shown kb.shown (mid.hooked.hook a b p (rw (size_at-some m a s ka.had) (holds-true (rectangle a s) p ia)) (rw (size_at-some m b t kb.had) (holds-true (rectangle b t) p ib)))
+    alone : (e f : Rectangle) (p : Position) → Kept m e.first e.size → Kept m f.first f.size → In e p → In f p → e.first ≡ f.first
+    alone e f p ka kb i j = in_one e.first f.first ka.shown kb.shown (mid.hooked.hook e.first f.first p (rw (size_at-some m e.first e.size ka.had) i) (rw (size_at-some m f.first f.size kb.had) j))
 
 -- widths and heights that are set
 
@@ -125,41 +121,29 @@ pub narrow_row_span : (m : SpanMap) (p : Position) (h : ℕ) → 1 ≤ h → Nar
 narrow_row_span m p h k narrow = flat_flipped _ (flat_widened (flipped (size_at m)) _ (flip p) h (heightened m p h k) (narrow_flipped (size_at m) narrow))
 
 pub flat_dropped : (m : SpanMap) → Flat (size_at m) → Flat (size_at (drop_hidden m))
-flat_dropped m flat = record { height = λ a. either a (kept_or_one m a) }
-  where
-    either : (a : Position) → (size_at (drop_hidden m) a ≡ size_at m a) ⊎ (size_at (drop_hidden m) a ≡ sized 1 1) → (size_at (drop_hidden m) a).height ≡ 1
-    either a (inl e) = ap (λ (s : Size). s.height) e ∙ flat.height a
-    either a (inr e) = ap (λ (s : Size). s.height) e
+flat_dropped m flat = record { height = λ a. elim (kept_or_one m a) [ inl e ↦ ap (λ (s : Size). s.height) e ∙ flat.height a | inr e ↦ ap (λ (s : Size). s.height) e ] }
 
 pub narrow_dropped : (m : SpanMap) → Narrow (size_at m) → Narrow (size_at (drop_hidden m))
-narrow_dropped m narrow = record { width = λ a. either a (kept_or_one m a) }
-  where
-    either : (a : Position) → (size_at (drop_hidden m) a ≡ size_at m a) ⊎ (size_at (drop_hidden m) a ≡ sized 1 1) → (size_at (drop_hidden m) a).width ≡ 1
-    either a (inl e) = ap (λ (s : Size). s.width) e ∙ narrow.width a
-    either a (inr e) = ap (λ (s : Size). s.width) e
+narrow_dropped m narrow = record { width = λ a. elim (kept_or_one m a) [ inl e ↦ ap (λ (s : Size). s.width) e ∙ narrow.width a | inr e ↦ ap (λ (s : Size). s.width) e ] }
 
 -- a rectangle that shares no cell with another's, and lies inside, is set beside rectangles that fit
-pub fits_with : (m : SpanMap) (p : Position) (size : Size) (rows columns : ℕ) → IsSpanSize size → p.row + size.height ≤ rows → p.col + size.width ≤ columns → ((a q : Position) (s : Size) → get m a ≡ Some s → In (rectangle a s) q → In (rectangle p size) q → a ≡ p) → Fits m rows columns → Fits (with_size m p size) rows columns
-fits_with m p size rows columns merges tall wide free fits = record { inside = λ a s has. inside_at a s has (cases_place a p); apart = λ a b s t q ha hb ia ib. apart a b s t q ha hb (holds-true (rectangle a s) q ia) (holds-true (rectangle b t) q ib) (cases_place a p) (cases_place b p) }
+pub fits_with : (m : SpanMap) (p : Position) (size : Size) (rows columns : ℕ) → IsSpan size → p.row + size.height ≤ rows → p.col + size.width ≤ columns → ((a q : Position) (s : Size) → get m a ≡ Some s → In (rectangle a s) q → In (rectangle p size) q → a ≡ p) → Fits m rows columns → Fits (with_size m p size) rows columns
+fits_with m p size rows columns merges tall wide free fits = record { each = λ e is. record { inside = inside e is (cases_place e.first p); alone = λ f q js i j. alone e f q is js i j (cases_place e.first p) (cases_place f.first p) } }
   where
-    here : (s : Size) → get (with_size m p size) p ≡ Some s → s ≡ size
-    here s has = sym (size_at-some (with_size m p size) p s has) ∙ size_at-with_size m p size merges.height merges.width
+    here : (e : Rectangle) → get (with_size m p size) e.first ≡ Some e.size → e.first ≡ p → e ≡ rectangle p size
+    here e is same =
+        let has : get (with_size m p size) p ≡ Some e.size = subst (λ x. get (with_size m p size) x ≡ Some e.size) same is in
+        ap₂ rectangle same (sym (size_at-some (with_size m p size) p e.size has) ∙ size_at-with_size m p size merges.height merges.width)
 
-    there : (a : Position) (s : Size) → a ≢ p → get (with_size m p size) a ≡ Some s → get m a ≡ Some s
-    there a s n has = sym (with_size-other m p size a n) ∙ has
+    there : (e : Rectangle) → e.first ≢ p → get (with_size m p size) e.first ≡ Some e.size → get m e.first ≡ Some e.size
+    there e n is = sym (with_size-other m p size e.first n) ∙ is
 
-    inside_at : (a : Position) (s : Size) → get (with_size m p size) a ≡ Some s → (a ≡ p) ⊎ (a ≢ p) → (a.row + s.height ≤ rows) × (a.col + s.width ≤ columns)
-    inside_at a s has (inl e) =
-        let is = here s (subst (λ x. get (with_size m p size) x ≡ Some s) e has) in
-        rw (e, is) (tall, wide)
-    inside_at a s has (inr n) = fits.inside a s (there a s n has)
+    inside : (e : Rectangle) → get (with_size m p size) e.first ≡ Some e.size → (e.first ≡ p) ⊎ (e.first ≢ p) → LiesInside rows columns e
+    inside e is (inl same) = subst (LiesInside rows columns) (sym (here e is same)) (record { bottom = tall; right = wide })
+    inside e is (inr n) = (fits.each e (there e n is)).inside
 
-    apart : (a b : Position) (s t : Size) (q : Position) → get (with_size m p size) a ≡ Some s → get (with_size m p size) b ≡ Some t → In (rectangle a s) q → In (rectangle b t) q → (a ≡ p) ⊎ (a ≢ p) → (b ≡ p) ⊎ (b ≢ p) → a ≡ b
-    apart a b s t q ha hb ia ib (inl e) (inl f) = e ∙ sym f
-    apart a b s t q ha hb ia ib (inl e) (inr n) =
-        let is = here s (subst (λ x. get (with_size m p size) x ≡ Some s) e ha) in
-        e ∙ sym (free b q t (there b t n hb) ib (rw (← is, ← e) ia))
-    apart a b s t q ha hb ia ib (inr n) (inl f) =
-        let is = here t (subst (λ x. get (with_size m p size) x ≡ Some t) f hb) in
-        free a q s (there a s n ha) ia (rw (← is, ← f) ib) ∙ sym f
-    apart a b s t q ha hb ia ib (inr n) (inr k) = fits.apart a b s t q (there a s n ha) (there b t k hb) (holds-from (rectangle a s) q ia) (holds-from (rectangle b t) q ib)
+    alone : (e f : Rectangle) (q : Position) → get (with_size m p size) e.first ≡ Some e.size → get (with_size m p size) f.first ≡ Some f.size → In e q → In f q → (e.first ≡ p) ⊎ (e.first ≢ p) → (f.first ≡ p) ⊎ (f.first ≢ p) → e.first ≡ f.first
+    alone e f q is js i j (inl same) (inl also) = same ∙ sym also
+    alone e f q is js i j (inl same) (inr n) = same ∙ sym (free f.first q f.size (there f n js) j (subst (λ g. In g q) (here e is same) i))
+    alone e f q is js i j (inr n) (inl also) = free e.first q e.size (there e n is) i (subst (λ g. In g q) (here f js also) j) ∙ sym also
+    alone e f q is js i j (inr n) (inr k) = (fits.each e (there e n is)).alone f q (there f k js) i j

@@ -1,12 +1,11 @@
 -- Anchors that are marked where another's rectangle meets theirs, from the first to the last, and what is left without them.
-use Rattle.tabled_grid.proofs.Common.{[], ◌&&◌, ◌++◌, ◌+◌, ◌-◌, ◌<◌, ◌||◌, ◌∙◌, ◌∷◌, ◌≡◌, ◌≤◌, AreSorted, Bool, Less, List, Position, Rectangle, and_parts, and_right, ap, append-nil, ap₂, arith, common_steps, cond, drop, drop-drop, drop-set-lt, drop_all, drop_at, drop_more, false, filter, filter_more, fits_among, get_or, get_or_default, length, length-drop, length-replicate, length-take, lies_inside, list_all, list_any, map, meets, not, not-true, or_right, position_cmp, refl, replicate, same_place, set, subst, suc, sym, take, take-add, take-append-drop, take_all, take_at, take_more, take_more_set, true, with_met, zero, ℕ}
+use Rattle.tabled_grid.proofs.Common.{[], ◌&&◌, ◌++◌, ◌+◌, ◌-◌, ◌<◌, ◌||◌, ◌∙◌, ◌∷◌, ◌≡◌, AreSorted, Bool, List, Rectangle, add-one, and_parts, and_right, ap, append-nil, ap₂, arith, common_steps, cond, drop, drop-drop, drop-set-lt, drop_all, drop_at, drop_more, elsewhere, false, filter, filter_more, fits_among, get_or, get_or_default, length, length-drop, length-replicate, length-take, lies_inside, list_all, list_any, map, meets, not, not-true, or_right, refl, replicate, set, suc, sym, take, take-add, take-append-drop, take_all, take_at, take_more, take_more_set, tied_itself, true, with_met, zero, ℕ}
 use Rattle.std.proofs.Common.{append_assoc, length-append}
 use Rattle.std.proofs.lemmas.List.Folds.{list_all-append, list_any_more}
 use borrow.Rule.Slice.PartMut.{put_mid}
-use Rattle.tabled_grid.proofs.BesideAnchors.{before}
-use Rattle.tabled_grid.proofs.PassedAnchors.{all_after, apart_over, meets-turned, places_apart, sorted_drop}
-use Rattle.tabled_grid.proofs.SortedEntries.{Below, halves, less}
-use Rattle.tabled_grid.proofs.SpanMaps.{same_place-self}
+use Rattle.tabled_grid.proofs.PassedAnchors.{all_after, apart_over}
+use Rattle.tabled_grid.proofs.Rectangles.{meets-turned}
+use Rattle.tabled_grid.proofs.SortedEntries.{positions_total, without_found}
 
 module _ (by : Rectangle) where
   or_false : (a b : Bool) → b ≡ false → (a || b) ≡ a
@@ -78,31 +77,24 @@ module _ (by : Rectangle) where
 marks-written : (i len : ℕ) (old new rest : List Bool) → i < length old → len ≡ length old → length new ≡ length old - (i + 1) → (length (take len (put_mid (i + 1) (length old - (i + 1)) old new ++ rest)) ≡ length old) × (drop (i + 1) (take len (put_mid (i + 1) (length old - (i + 1)) old new ++ rest)) ≡ new)
 marks-written i len old new rest here full long = grind (arith, common_steps, drop_all, length-drop, append-nil, length-take, length-append, take_at, drop_at)
 
--- of a rectangle and another one of a list: they are one, or share no cell
-abbrev clear : Rectangle → Rectangle → Bool
-clear e f = same_place e.first f.first || not (meets e f)
-
-clear-before : (e : Rectangle) (n : ℕ) (fs : List Rectangle) → ((j : ℕ) (d : Rectangle) → j < n → position_cmp (get_or fs j d).first e.first ≡ Less) → n ≤ length fs → list_all (clear e) (take n fs) ≡ not (list_any (λ (f : Rectangle). meets f e) (take n fs))
-clear-before e zero fs below within = refl
-clear-before e (suc n) [] below within = absurd (omega arith)
-clear-before e (suc n) (f ∷ fs) below within =
-    let rest = clear-before e n fs (λ j d h. below (suc j) d (omega arith)) (omega arith) in
-    ap (λ b. clear e f && b) rest ∙ neither (same_place e.first f.first) (meets e f) (list_any (λ (g : Rectangle). meets g e) (take n fs)) (places_apart f.first e.first (below 0 e (omega arith))).1 ∙ ap (λ m. not (m || list_any (λ (g : Rectangle). meets g e) (take n fs))) (meets-turned e f)
+-- no rectangle of a list is met just where none meets it
+unmet-turned : (e : Rectangle) (fs : List Rectangle) → list_all (λ (f : Rectangle). not (meets e f)) fs ≡ not (list_any (λ (f : Rectangle). meets f e) fs)
+unmet-turned e [] = refl
+unmet-turned e (f ∷ fs) = ap₂ (λ a b. not a && b) (meets-turned e f) (unmet-turned e fs) ∙ neither (meets f e) (list_any (λ (g : Rectangle). meets g e) fs)
   where
-    neither : (same met any : Bool) → same ≡ false → ((same || not met) && not any) ≡ not (met || any)
-    neither true met any h = cc
-    neither false true any h = refl
-    neither false false any h = refl
-
-clear-after : (e : Rectangle) (fs : List Rectangle) → Below e.first fs → list_all (clear e) fs ≡ list_all (λ (f : Rectangle). not (meets e f)) fs
-clear-after e [] below = refl
-clear-after e (f ∷ fs) below = ap₂ (λ a b. a && b) (ap (λ same. same || not (meets e f)) (places_apart e.first f.first (less _ (halves _ _ below).0)).0) (clear-after e fs (halves _ _ below).1)
+    neither : (a b : Bool) → (not a && not b) ≡ not (a || b)
+    neither true b = refl
+    neither false b = refl
 
 module _ (rows columns : ℕ) (es : List Rectangle) where
+  -- a rectangle fits among the others of the list
+  abbrev fits : Rectangle → Bool
+  fits e = fits_among rows columns (elsewhere e.first es) e
+
   -- those before an index that fit are kept, and those from there on are marked that one before the index meets
   pub record Kept (i : ℕ) (kept : List Rectangle) (marks : List Bool) : Type 0 where
     pub long : length marks ≡ length es
-    pub fit : kept ≡ filter (fits_among rows columns es) (take i es)
+    pub fit : kept ≡ filter fits (take i es)
     pub met : drop i marks ≡ map (λ (e : Rectangle). list_any (λ (f : Rectangle). meets f e) (take i es)) (drop i es)
 
   none_met : (fs : List Rectangle) → replicate (length fs) false ≡ map (λ (e : Rectangle). false) fs
@@ -121,15 +113,13 @@ module _ (rows columns : ℕ) (es : List Rectangle) where
         parts : (x y : Bool) (xs ys : List Bool) → x ∷ xs ≡ y ∷ ys → (x ≡ y) × (xs ≡ ys)
         parts x y xs ys same = (cc, cc)
 
-    fits-here : AreSorted es → fits_among rows columns es (get_or es i d) ≡ (lies_inside rows columns (get_or es i d) && (not (get_or marks i false) && list_all (λ (f : Rectangle). not (meets (get_or es i d) f)) (drop (i + 1) es)))
+    fits-here : AreSorted es → fits (get_or es i d) ≡ (lies_inside rows columns (get_or es i d) && (not (get_or marks i false) && list_all (λ (f : Rectangle). not (meets (get_or es i d) f)) (drop (i + 1) es)))
     fits-here up =
         let e = get_or es i d in
-        let later : Below e.first (drop (i + 1) es) = (halves _ _ (subst AreSorted (drop_more es i d here) (sorted_drop i es up))).0 in
+        let unmet = λ (f : Rectangle). not (meets e f) in
         ap (λ b. lies_inside rows columns e && b)
-        (ap (list_all (clear e)) (sym (take-append-drop i es)) ∙ list_all-append (clear e) (take i es) (drop i es)
-        ∙ ap₂ (λ a b. a && b)
-        (clear-before e i es (λ j c h. subst (λ (p : Position). position_cmp (get_or es j c).first p ≡ Less) (ap (λ (f : Rectangle). f.first) (get_or_default es i c d here)) (before es j i c up h here)) (omega arith) ∙ ap not (sym heads.0))
-        (ap (list_all (clear e)) (drop_more es i d here) ∙ ap (λ same. (same || not (meets e e)) && list_all (clear e) (drop (i + 1) es)) (same_place-self e.first) ∙ clear-after e (drop (i + 1) es) later))
+        (ap (list_all unmet) (without_found es e.first i d up here (tied_itself positions_total e.first) ∙ ap (λ n. take i es ++ drop n es) (sym (add-one i))) ∙ list_all-append unmet (take i es) (drop (i + 1) es)
+        ∙ ap (λ b. b && list_all unmet (drop (i + 1) es)) (unmet-turned e (take i es) ∙ ap not (sym heads.0)))
 
     -- the marks, of which those after the index are written anew as a slice, and the anchor at the index if it fits
     pub kept-more : AreSorted es → (now new rest : List Bool) (len : ℕ) (newer : List Rectangle) (alone met unset : Bool) → now ≡ marks → len ≡ length now → length new ≡ length (take (length now - (i + 1)) (drop (i + 1) now)) →
@@ -148,7 +138,7 @@ module _ (rows columns : ℕ) (es : List Rectangle) where
           fit = newer_is ∙ chosen ((alone && not met) && lies_inside rows columns e)
               ∙ ap₂ (λ ks b. ks ++ cond b (e ∷ []) []) so.fit
               (turned alone (not met) (lies_inside rows columns e) ∙ ap (λ b. lies_inside rows columns e && b) (ap₂ (λ a b. not a && b) (met_is ∙ get_or_default marks i unset false before_all) (alone_is ∙ ap (list_all (λ (f : Rectangle). not (meets e f))) (all_after es i))) ∙ sym (fits-here up))
-              ∙ sym (filter_more (fits_among rows columns es) es i d here);
+              ∙ sym (filter_more fits es i d here);
           met = written.1 ∙ new_is ∙ ap₂ (with_met e) (all_after es i) (after ∙ heads.1)
               ∙ marks-map e _ _ (λ f. sym (list_any_more (λ (g : Rectangle). meets g f) es i d here)) (drop (i + 1) es);
         }

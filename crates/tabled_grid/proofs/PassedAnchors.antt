@@ -1,22 +1,13 @@
 -- Going through sorted anchors from one on, and stopping once they are past its rectangle.
-use Rattle.tabled_grid.proofs.Common.{[], ◌&&◌, ◌++◌, ◌+◌, ◌-◌, ◌<◌, ◌∙◌, ◌∷◌, ◌≡◌, ◌≤◌, ◌⊎◌, AreSorted, Bool, Less, List, Position, Rectangle, and_from, and_parts, ap, ap₂, arith, common_steps, cond, drop, drop-drop, drop-set-lt, drop_more, drop_more_same, false, false_from_ne_true, get_or, get_or-drop, get_or_default, holds, inl, inr, is_past, length, length-drop, list_all, lt-ltb, map, map-append, map_more, meets, not, or_cases, position_cmp, ranked, rectangle, refl, same_place, set, sized, subst, suc, sym, take, take-add, take-append-drop, take_all, take_more, take_more_set, true, unless_held, zero, ℕ}
+use Rattle.tabled_grid.proofs.Common.{[], ◌&&◌, ◌++◌, ◌+◌, ◌-◌, ◌<◌, ◌∙◌, ◌∷◌, ◌≡◌, ◌≤◌, ◌⊎◌, AreSorted, Bool, IsBefore, Less, List, Position, Rectangle, and_from, and_parts, ap, ap₂, arith, common_steps, cond, drop, drop-drop, drop-set-lt, drop_more, drop_more_same, false, false_from_ne_true, get_or, get_or-drop, get_or_default, holds, is_past, length, length-drop, list_all, map, map-append, map_more, meets, not, or_cases, position_cmp, rectangle, refl, same_place, set, sized, subst, suc, sym, take, take-add, take-append-drop, take_all, take_more, take_more_set, true, unless_held, zero, ℕ}
+use Rattle.tabled_grid.proofs.Order.{before-less, before_other}
 use Rattle.std.proofs.Common.{append_assoc}
 use Rattle.tabled_grid.proofs.SortedEntries.{halves, less}
-use Rattle.tabled_grid.proofs.SpanMaps.{holds-true, same_place-apart}
-
--- the first comes before the second, row by row
-abbrev pub Earlier : Position → Position → Type 0
-Earlier p q = (p.row < q.row) ⊎ ((p.row ≡ q.row) × (p.col < q.col))
-
-pub earlier : (p q : Position) → position_cmp p q ≡ Less → Earlier p q
-earlier p q h = grind (arith, common_steps, ranked)
-
-pub later_apart : (p q : Position) → Earlier p q → p ≡ q → ⊥
-later_apart p q (inl l) same = omega (arith, ap (λ (x : Position). x.row) same)
-later_apart p q (inr l) same = omega (arith, ap (λ (x : Position). x.col) same)
+use Rattle.tabled_grid.proofs.SpanMaps.{same_place-apart}
+use Rattle.tabled_grid.proofs.Rectangles.{holds-true, meets-true}
 
 pub places_apart : (p q : Position) → position_cmp p q ≡ Less → (same_place p q ≡ false) × (same_place q p ≡ false)
-places_apart p q h = (same_place-apart p q (later_apart p q (earlier p q h)), same_place-apart q p (λ same. later_apart p q (earlier p q h) (sym same)))
+places_apart p q h = (same_place-apart p q (before_other p q (before-less p q h)), same_place-apart q p (λ same. before_other p q (before-less p q h) (sym same)))
 
 -- what the test says
 pub record IsPast (a : Rectangle) (p : Position) : Type 0 where
@@ -27,41 +18,18 @@ pub past-true : (a : Rectangle) (p : Position) → is_past a p ≡ true → IsPa
 past-true a p t = grind (arith, common_steps, and_parts, or_cases)
 
 -- past a rectangle, and so is what comes later
-pub past_later : (a : Rectangle) (p q : Position) → IsPast a p → Earlier p q → IsPast a q
+pub past_later : (a : Rectangle) (p q : Position) → IsPast a p → IsBefore p q → IsPast a q
 past_later a p q past later = grind (arith, common_steps)
 
 pub past_out : (a : Rectangle) (p : Position) → IsPast a p → holds a p ≡ false
 past_out a p past = grind (arith, common_steps, false_from_ne_true, holds-true)
-
--- two rectangles share a cell
-pub record Meets (a b : Rectangle) : Type 0 where
-  pub above : a.first.row < b.first.row + b.size.height
-  pub below : b.first.row < a.first.row + a.size.height
-  pub left : a.first.col < b.first.col + b.size.width
-  pub right : b.first.col < a.first.col + a.size.width
-
-pub meets-true : (a b : Rectangle) → meets a b ≡ true → Meets a b
-meets-true a b t = grind (arith, common_steps, and_parts)
-
-pub meets-from : (a b : Rectangle) → Meets a b → meets a b ≡ true
-meets-from a b m = and_from _ _ (and_from _ _ (lt-ltb _ _ m.above) (lt-ltb _ _ m.below)) (and_from _ _ (lt-ltb _ _ m.left) (lt-ltb _ _ m.right))
-
-both-turned : (a b : Bool) → (a && b) ≡ (b && a)
-both-turned true true = refl
-both-turned true false = refl
-both-turned false true = refl
-both-turned false false = refl
-
--- two rectangles share a cell either way
-pub meets-turned : (a b : Rectangle) → meets a b ≡ meets b a
-meets-turned a b = grind (arith, common_steps, both-turned)
 
 pub past_apart : (a b : Rectangle) → IsPast a b.first → meets a b ≡ false
 past_apart a b past = grind (arith, common_steps, false_from_ne_true, meets-true)
 
 -- a list in order whose first is past an anchor's rectangle
 past_first : (a e f : Rectangle) (es : List Rectangle) → AreSorted (e ∷ f ∷ es) → IsPast a e.first → IsPast a f.first
-past_first a e f es up past = past_later a e.first f.first past (earlier e.first f.first (less _ (halves _ _ (halves _ _ up).0).0))
+past_first a e f es up past = past_later a e.first f.first past (before-less e.first f.first (less _ (halves _ _ (halves _ _ up).0).0))
 
 pub none_held : (a e : Rectangle) (es : List Rectangle) → AreSorted (e ∷ es) → IsPast a e.first → map (unless_held a) (e ∷ es) ≡ e ∷ es
 none_held a e [] up past = ap (λ b. cond b (rectangle e.first (sized 0 0)) e ∷ []) (past_out a e.first past)

@@ -1,8 +1,8 @@
 -- How rectangles lie once a line is put in that none of them crosses.
-use Rattle.tabled_grid.proofs.Common.{[], ◌+◌, ◌-◌, ◌<◌, ◌∙◌, ◌∷◌, ◌≡◌, ◌≢◌, ◌≤◌, ◌⊎◌, Axis, Columns, Fits, In, List, None, Option, Position, Rectangle, Rows, Size, Some, SpanMap, and_from, ap, ap₂, arith, cases_lt, cond, crosses_line, false, get, holds, inl, inr, is_crossed, is_eq, line_of, lines_in, lt-ltb, next_line, none-some, place, position_cmp, rectangle, rectangles, refl, same_Some, shifted, shifted_in, shifted_place, subst, sym, true, ℕ}
+use Rattle.tabled_grid.proofs.Common.{[], ◌+◌, ◌-◌, ◌<◌, ◌∙◌, ◌∷◌, ◌≡◌, ◌≢◌, ◌≤◌, ◌⊎◌, Axis, Columns, Fits, In, LiesInside, List, None, Option, Position, Rectangle, Rows, Size, Some, SpanMap, and_from, ap, ap₂, arith, cases_lt, cond, crosses_line, false, false≢true, get, inl, inr, is_crossed, is_eq, line_of, lines_in, lt-ltb, next_line, none-some, place, position_cmp, rectangle, rectangles, refl, same_Some, shifted, shifted_in, shifted_place, subst, sym, true, ℕ}
 use Rattle.tabled_grid.proofs.Geometry.{cases_place}
 use Rattle.tabled_grid.proofs.Shifts.{Comes, anchors_shifted, comes, moves, stays}
-use Rattle.tabled_grid.proofs.SpanMaps.{found-any, holds-from, holds-true, tied, untied}
+use Rattle.tabled_grid.proofs.SpanMaps.{found-any, tied, untied}
 use Rattle.tabled_grid.proofs.SortedEntries.{find_at, get-map_of, get-rectangles, rectangles_anchors}
 
 -- an anchor that came from where another was
@@ -13,7 +13,7 @@ record CameIn (axis : Axis) (from : ℕ) (es : List Rectangle) (a : Position) (s
 
 came_in : (axis : Axis) (from : ℕ) (es : List Rectangle) (a : Position) (size : Size) → find_at a (shifted_in axis from es) ≡ Some size → CameIn axis from es a size
 came_in axis from [] a size has = absurd (none-some size has)
-came_in axis from (e ∷ es) a size has = either (shifted_place axis from e.first) refl (cases_place a) (came_in axis from es a size) has
+came_in axis from (e ∷ es) a size has = of_first (shifted_place axis from e.first) refl (cases_place a) (came_in axis from es a size) has
   where
     -- one that comes elsewhere was elsewhere
     passed : (old : Position) → old ≢ e.first → find_at old es ≡ Some size → shifted_place axis from old ≡ Some a → CameIn axis from (e ∷ es) a size
@@ -22,11 +22,11 @@ came_in axis from (e ∷ es) a size has = either (shifted_place axis from e.firs
         cond_false : (x : Position) → x ≢ e.first → find_at x es ≡ Some size → find_at x (e ∷ es) ≡ Some size
         cond_false x m h = ap (λ b. cond b (Some e.size) (find_at x es)) (untied x e.first m) ∙ h
 
-    either : (s : Option Position) → shifted_place axis from e.first ≡ s → ((b : Position) → (a ≡ b) ⊎ (a ≢ b)) → (find_at a (shifted_in axis from es) ≡ Some size → CameIn axis from es a size) → find_at a (shifted_in axis from (e ∷ es)) ≡ Some size → CameIn axis from (e ∷ es) a size
-    either None is same later h =
+    of_first : (s : Option Position) → shifted_place axis from e.first ≡ s → ((b : Position) → (a ≡ b) ⊎ (a ≢ b)) → (find_at a (shifted_in axis from es) ≡ Some size → CameIn axis from es a size) → find_at a (shifted_in axis from (e ∷ es)) ≡ Some size → CameIn axis from (e ∷ es) a size
+    of_first None is same later h =
         let rest = later (rw is at h) in
         passed rest.old (λ eq. none-some a (sym is ∙ ap (shifted_place axis from) (sym eq) ∙ rest.to)) rest.was rest.to
-    either (Some p) is same later h = here (same p) (rw is at h)
+    of_first (Some p) is same later h = here (same p) (rw is at h)
       where
         here : (a ≡ p) ⊎ (a ≢ p) → cond (is_eq (position_cmp a p)) (Some e.size) (find_at a (shifted_in axis from es)) ≡ Some size → CameIn axis from (e ∷ es) a size
         here (inl eq) g =
@@ -50,13 +50,10 @@ came axis from m a size has =
 
 -- a rectangle that begins before a line that none crosses ends before it
 ends_before : (axis : Axis) (line : ℕ) (m : SpanMap) (a : Position) (size : Size) → is_crossed axis line m ≡ false → get m a ≡ Some size → line_of axis a < line → line_of axis a + lines_in axis size ≤ line
-ends_before axis line m a size free has before = either (cases_lt line (line_of axis a + lines_in axis size))
-  where
-    either : (line < line_of axis a + lines_in axis size) ⊎ (line_of axis a + lines_in axis size ≤ line) → line_of axis a + lines_in axis size ≤ line
-    either (inl over) =
-        let crossed : is_crossed axis line m ≡ true = found-any (crosses_line axis line) (rectangles m) a size (sym (get-rectangles m a) ∙ has) (and_from _ _ (lt-ltb _ _ before) (lt-ltb _ _ over)) in
-        let never : false ≡ true = sym free ∙ crossed in cc
-    either (inr l) = l
+ends_before axis line m a size free has before = elim (cases_lt line (line_of axis a + lines_in axis size)) [
+  | inl over ↦ absurd (false≢true (sym free ∙ found-any (crosses_line axis line) (rectangles m) a size (sym (get-rectangles m a) ∙ has) (and_from _ _ (lt-ltb _ _ before) (lt-ltb _ _ over))))
+  | inr ends ↦ ends
+]
 
 -- no rectangle holds a cell of the line that was put in
 pub line_is_free : (axis : Axis) (line : ℕ) (m : SpanMap) (a q : Position) (size : Size) → is_crossed axis line m ≡ false → get (shifted axis line m) a ≡ Some size → In (rectangle a size) q → line_of axis q ≢ line
@@ -86,40 +83,43 @@ module _ (axis : Axis) (line : ℕ) (m : SpanMap) (rows columns : ℕ) (free : i
   sides Rows a b p s t ends after ha hb = omega (arith, ha.bottom, ends, after, hb.top)
   sides Columns a b p s t ends after ha hb = omega (arith, ha.right, ends, after, hb.left)
 
-  pub apart_shifted : (a b : Position) (s t : Size) (p : Position) → get (shifted axis line m) a ≡ Some s → get (shifted axis line m) b ≡ Some t → holds (rectangle a s) p ≡ true → holds (rectangle b t) p ≡ true → a ≡ b
-  apart_shifted a b s t p ha hb ia ib =
+  pub apart_shifted : (a b : Position) (s t : Size) (p : Position) → get (shifted axis line m) a ≡ Some s → get (shifted axis line m) b ≡ Some t → In (rectangle a s) p → In (rectangle b t) p → a ≡ b
+  apart_shifted a b s t p ha hb pa pb =
       let ca = came axis line m a s ha in
       let cb = came axis line m b t hb in
-      by ca.old cb.old ca.was cb.was ca.comes cb.comes (holds-true (rectangle a s) p ia) (holds-true (rectangle b t) p ib)
+      once_moved ca.old cb.old ca.was cb.was ca.comes cb.comes
     where
-      by : (c d : Position) → get m c ≡ Some s → get m d ≡ Some t → Comes axis line c a → Comes axis line d b → In (rectangle a s) p → In (rectangle b t) p → a ≡ b
-      by c d hc hd (stays u is) (stays v js) pa pb = is ∙ fits.apart c d s t p hc hd (holds-from (rectangle c s) p (rw is at pa)) (holds-from (rectangle d t) p (rw js at pb)) ∙ sym js
-      by c d hc hd (stays u is) (moves v js) pa pb = absurd (sides axis c d p s t (ends_before axis line m c s free hc u) v (rw is at pa) (rw js at pb))
-      by c d hc hd (moves u is) (stays v js) pa pb = absurd (sides axis d c p t s (ends_before axis line m d t free hd v) u (rw js at pb) (rw is at pa))
-      by c d hc hd (moves u is) (moves v js) pa pb =
+      once_moved : (c d : Position) → get m c ≡ Some s → get m d ≡ Some t → Comes axis line c a → Comes axis line d b → a ≡ b
+      once_moved c d hc hd (stays u is) (stays v js) = is ∙ (fits.each (rectangle c s) hc).alone (rectangle d t) p hd (rw is at pa) (rw js at pb) ∙ sym js
+      once_moved c d hc hd (stays u is) (moves v js) = absurd (sides axis c d p s t (ends_before axis line m c s free hc u) v (rw is at pa) (rw js at pb))
+      once_moved c d hc hd (moves u is) (stays v js) = absurd (sides axis d c p t s (ends_before axis line m d t free hd v) u (rw js at pb) (rw is at pa))
+      once_moved c d hc hd (moves u is) (moves v js) =
           let qa = held_before axis c p s (rw is at pa) in
           let qb = held_before axis d p t (rw js at pb) in
           let same = same_before axis qa.0 qb.0 (sym qa.2 ∙ qb.2) in
-          is ∙ ap (next_line axis) (fits.apart c d s t qa.0 hc hd (holds-from (rectangle c s) qa.0 qa.1) (subst (λ q. holds (rectangle d t) q ≡ true) (sym same) (holds-from (rectangle d t) qb.0 qb.1))) ∙ sym js
+          is ∙ ap (next_line axis) ((fits.each (rectangle c s) hc).alone (rectangle d t) qa.0 hd qa.1 (subst (In (rectangle d t)) (sym same) qb.1)) ∙ sym js
+
+  -- they fit a table with one line more
+  fits_longer : (r k : ℕ) → ((old a : Position) (size : Size) → LiesInside rows columns (rectangle old size) → Comes axis line old a → LiesInside r k (rectangle a size)) → Fits (shifted axis line m) r k
+  fits_longer r k inside = record {
+    each = λ e is. record {
+      inside = let it = came axis line m e.first e.size is in inside it.old e.first e.size (fits.each (rectangle it.old e.size) it.was).inside it.comes;
+      alone = λ f p js i j. apart_shifted e.first f.first e.size f.size p is js i j;
+    };
+  }
 
 -- they fit the table with one row more
 pub fits_below : (m : SpanMap) (line : ℕ) (rows columns : ℕ) → is_crossed Rows line m ≡ false → Fits m rows columns → Fits (shifted Rows line m) (rows + 1) columns
-fits_below m line rows columns free fits = record { inside = inside; apart = apart_shifted Rows line m rows columns free fits }
+fits_below m line rows columns free fits = fits_longer Rows line m rows columns free fits (rows + 1) columns inside
   where
-    by : (old a : Position) (size : Size) → (old.row + size.height ≤ rows) × (old.col + size.width ≤ columns) → Comes Rows line old a → (a.row + size.height ≤ rows + 1) × (a.col + size.width ≤ columns)
-    by old a size inside (stays before is) = rw is (omega (arith, inside.0), inside.1)
-    by old a size inside (moves after is) = rw is (omega (arith, inside.0), inside.1)
-
-    inside : (a : Position) (size : Size) → get (shifted Rows line m) a ≡ Some size → (a.row + size.height ≤ rows + 1) × (a.col + size.width ≤ columns)
-    inside a size has = let it = came Rows line m a size has in by it.old a size (fits.inside it.old size it.was) it.comes
+    inside : (old a : Position) (size : Size) → LiesInside rows columns (rectangle old size) → Comes Rows line old a → LiesInside (rows + 1) columns (rectangle a size)
+    inside old a size was (stays before is) = rw is (record { bottom = omega (arith, was.bottom); right = was.right })
+    inside old a size was (moves after is) = rw is (record { bottom = omega (arith, was.bottom); right = was.right })
 
 -- they fit the table with one column more
 pub fits_beside : (m : SpanMap) (line : ℕ) (rows columns : ℕ) → is_crossed Columns line m ≡ false → Fits m rows columns → Fits (shifted Columns line m) rows (columns + 1)
-fits_beside m line rows columns free fits = record { inside = inside; apart = apart_shifted Columns line m rows columns free fits }
+fits_beside m line rows columns free fits = fits_longer Columns line m rows columns free fits rows (columns + 1) inside
   where
-    by : (old a : Position) (size : Size) → (old.row + size.height ≤ rows) × (old.col + size.width ≤ columns) → Comes Columns line old a → (a.row + size.height ≤ rows) × (a.col + size.width ≤ columns + 1)
-    by old a size inside (stays before is) = rw is (inside.0, omega (arith, inside.1))
-    by old a size inside (moves after is) = rw is (inside.0, omega (arith, inside.1))
-
-    inside : (a : Position) (size : Size) → get (shifted Columns line m) a ≡ Some size → (a.row + size.height ≤ rows) × (a.col + size.width ≤ columns + 1)
-    inside a size has = let it = came Columns line m a size has in by it.old a size (fits.inside it.old size it.was) it.comes
+    inside : (old a : Position) (size : Size) → LiesInside rows columns (rectangle old size) → Comes Columns line old a → LiesInside rows (columns + 1) (rectangle a size)
+    inside old a size was (stays before is) = rw is (record { bottom = was.bottom; right = omega (arith, was.right) })
+    inside old a size was (moves after is) = rw is (record { bottom = was.bottom; right = omega (arith, was.right) })

@@ -1,6 +1,6 @@
 -- Anchors when a line is put in: one after another in a list, and in the map that it makes.
-use Rattle.tabled_grid.proofs.Common.{[], ◌<◌, ◌∷◌, ◌≡◌, ◌≤◌, AllByRecursion, AreAnchors, AreSorted, Axis, Bool, Columns, IsSpanSize, Less, List, None, Option, Position, Rectangle, Rows, Some, ap, ap₂, arith, cases_Bool, common_steps, filter, get_or, inl, inr, is_some, length, line_of, map, next_line, none-some, position_cmp, ranked, rectangle, refl, same_Some, set, shifted_in, shifted_place, suc, unwrap_or, zero, ℕ}
-use Rattle.tabled_grid.proofs.PassedAnchors.{Earlier, earlier}
+use Rattle.tabled_grid.proofs.Common.{[], ◌<◌, ◌∷◌, ◌≡◌, ◌≤◌, AllByRecursion, AreAnchors, AreSorted, Axis, Bool, Columns, IsBefore, IsSpan, List, None, Option, Position, Rectangle, Rows, Some, ap, ap₂, arith, cases_Bool, common_steps, filter, get_or, inl, inr, is_some, length, line_of, map, next_line, none-some, rectangle, refl, same_Some, set, shifted_in, shifted_place, suc, unwrap_or, zero, ℕ}
+use Rattle.tabled_grid.proofs.Order.{before-less, less-before}
 use Rattle.tabled_grid.proofs.SortedEntries.{Below, both, halves, is_less, less}
 
 -- a list whose first k items were changed
@@ -41,17 +41,17 @@ module _ (axis : Axis) (from : ℕ) where
   -- those with an index left, each moved
   pub moved_one_by_one : (es : List Rectangle) → map (shifted_or_kept axis from) (filter (has_place axis from) es) ≡ shifted_in axis from es
   moved_one_by_one [] = refl
-  moved_one_by_one (e ∷ es) = either (shifted_place axis from e.first) refl (moved_one_by_one es)
+  moved_one_by_one (e ∷ es) = once_shifted (shifted_place axis from e.first) refl (moved_one_by_one es)
     where
-      either : (s : Option Position) → shifted_place axis from e.first ≡ s → map (shifted_or_kept axis from) (filter (has_place axis from) es) ≡ shifted_in axis from es → map (shifted_or_kept axis from) (filter (has_place axis from) (e ∷ es)) ≡ shifted_in axis from (e ∷ es)
-      either None is rest = rw is rest
-      either (Some p) is rest = rw is (ap₂ (λ (x : Rectangle) xs. x ∷ xs) (ap (λ s. rectangle (unwrap_or s e.first) e.size) is) rest)
+      once_shifted : (s : Option Position) → shifted_place axis from e.first ≡ s → map (shifted_or_kept axis from) (filter (has_place axis from) es) ≡ shifted_in axis from es → map (shifted_or_kept axis from) (filter (has_place axis from) (e ∷ es)) ≡ shifted_in axis from (e ∷ es)
+      once_shifted None is rest = rw is rest
+      once_shifted (Some p) is rest = rw is (ap₂ (λ (x : Rectangle) xs. x ∷ xs) (ap (λ s. rectangle (unwrap_or s e.first) e.size) is) rest)
 
   pub comes : (p q : Position) → shifted_place axis from p ≡ Some q → Comes axis from p q
   comes p q is = grind (arith, common_steps, cases_Bool, same_Some, none-some)
 
 -- places keep their order
-next_later : (axis : Axis) (from : ℕ) (p q p' q' : Position) → Earlier p q → Comes axis from p p' → Comes axis from q q' → Earlier p' q'
+next_later : (axis : Axis) (from : ℕ) (p q p' q' : Position) → IsBefore p q → Comes axis from p p' → Comes axis from q q' → IsBefore p' q'
 next_later axis from p q p' q' e (stays a is) (stays b js) = rw (is, js) e
 next_later Rows from p q p' q' (inl e) (stays a is) (moves b js) = rw (is, js) (inl (omega arith))
 next_later Rows from p q p' q' (inr e) (stays a is) (moves b js) = rw (is, js) (inl (omega arith))
@@ -66,33 +66,30 @@ next_later Columns from p q p' q' (inr e) (moves a is) (stays b js) = absurd (om
 next_later Columns from p q p' q' (inl e) (moves a is) (moves b js) = rw (is, js) (inl e)
 next_later Columns from p q p' q' (inr e) (moves a is) (moves b js) = rw (is, js) (inr (e.0, omega arith))
 
-pub from_earlier : (p q : Position) → Earlier p q → position_cmp p q ≡ Less
-from_earlier p q e = grind (arith, common_steps, ranked)
-
 module _ (axis : Axis) (from : ℕ) where
   below_shifted : (x y : Position) (es : List Rectangle) → shifted_place axis from x ≡ Some y → Below x es → Below y (shifted_in axis from es)
   below_shifted x y [] is h = tt
-  below_shifted x y (e ∷ es) is h = either (shifted_place axis from e.first) refl (below_shifted x y es is (halves _ _ h).1)
+  below_shifted x y (e ∷ es) is h = once_shifted (shifted_place axis from e.first) refl (below_shifted x y es is (halves _ _ h).1)
     where
-      either : (s : Option Position) → shifted_place axis from e.first ≡ s → Below y (shifted_in axis from es) → Below y (shifted_in axis from (e ∷ es))
-      either None js rest = rw js rest
-      either (Some p) js rest = rw js (both _ _ (is_less _ (from_earlier y p (next_later axis from x e.first y p (earlier x e.first (less _ (halves _ _ h).0)) (comes axis from x y is) (comes axis from e.first p js)))) rest)
+      once_shifted : (s : Option Position) → shifted_place axis from e.first ≡ s → Below y (shifted_in axis from es) → Below y (shifted_in axis from (e ∷ es))
+      once_shifted None js rest = rw js rest
+      once_shifted (Some p) js rest = rw js (both _ _ (is_less _ (less-before y p (next_later axis from x e.first y p (before-less x e.first (less _ (halves _ _ h).0)) (comes axis from x y is) (comes axis from e.first p js)))) rest)
 
   pub sorted_shifted : (es : List Rectangle) → AreSorted es → AreSorted (shifted_in axis from es)
   sorted_shifted [] h = tt
-  sorted_shifted (e ∷ es) h = either (shifted_place axis from e.first) refl (sorted_shifted es (halves _ _ h).1)
+  sorted_shifted (e ∷ es) h = once_shifted (shifted_place axis from e.first) refl (sorted_shifted es (halves _ _ h).1)
     where
-      either : (s : Option Position) → shifted_place axis from e.first ≡ s → AreSorted (shifted_in axis from es) → AreSorted (shifted_in axis from (e ∷ es))
-      either None js rest = rw js rest
-      either (Some p) js rest = rw js (both _ _ (below_shifted e.first p es js (halves _ _ h).0) rest)
+      once_shifted : (s : Option Position) → shifted_place axis from e.first ≡ s → AreSorted (shifted_in axis from es) → AreSorted (shifted_in axis from (e ∷ es))
+      once_shifted None js rest = rw js rest
+      once_shifted (Some p) js rest = rw js (both _ _ (below_shifted e.first p es js (halves _ _ h).0) rest)
 
-  sizes_shifted : (es : List Rectangle) → AllByRecursion (λ (e : Rectangle). IsSpanSize e.size) es → AllByRecursion (λ (e : Rectangle). IsSpanSize e.size) (shifted_in axis from es)
+  sizes_shifted : (es : List Rectangle) → AllByRecursion (λ (e : Rectangle). IsSpan e.size) es → AllByRecursion (λ (e : Rectangle). IsSpan e.size) (shifted_in axis from es)
   sizes_shifted [] h = h
-  sizes_shifted (e ∷ es) h = either (shifted_place axis from e.first) refl (sizes_shifted es h.1)
+  sizes_shifted (e ∷ es) h = once_shifted (shifted_place axis from e.first) refl (sizes_shifted es h.1)
     where
-      either : (s : Option Position) → shifted_place axis from e.first ≡ s → AllByRecursion (λ (e : Rectangle). IsSpanSize e.size) (shifted_in axis from es) → AllByRecursion (λ (e : Rectangle). IsSpanSize e.size) (shifted_in axis from (e ∷ es))
-      either None js rest = rw js rest
-      either (Some p) js rest = rw js (h.0, rest)
+      once_shifted : (s : Option Position) → shifted_place axis from e.first ≡ s → AllByRecursion (λ (e : Rectangle). IsSpan e.size) (shifted_in axis from es) → AllByRecursion (λ (e : Rectangle). IsSpan e.size) (shifted_in axis from (e ∷ es))
+      once_shifted None js rest = rw js rest
+      once_shifted (Some p) js rest = rw js (h.0, rest)
 
   -- anchors that are shifted are anchors
   pub anchors_shifted : (es : List Rectangle) → AreAnchors es → AreAnchors (shifted_in axis from es)

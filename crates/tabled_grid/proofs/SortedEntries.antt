@@ -1,5 +1,5 @@
 -- Rectangles whose anchors rise: what a binary search finds in them, what an edit leaves, and the maps that they make.
-use Rattle.tabled_grid.proofs.Common.{[], ◌&&◌, ◌<◌, ◌∙◌, ◌∷◌, ◌≡◌, ◌≤◌, ◌||◌, ◌⊎◌, All-filter, All-from_recursion, AllByRecursion, AllWithin, AreAnchors, AreSorted, Bool, Equal, Err, FinMap, Greater, IsAntisymmetric, IsBinarySearchResult, IsNonDecreasingBy, IsSearchInRange, IsSpanSize, IsTotalOrder, Less, List, MatchResult, None, Ok, Option, Ordering, Position, Rectangle, Result, Size, Some, SpanMap, T, add-one, anchors-spans_of, and_from, and_parts, ap, arith, below_all, by_order, cases_lt, cond, entries, entries-from_sorted, entries_sorted, eq_by_cmp, eq_by_cmp_equiv, false, filter, find, find-put, find-where_key, from_sorted, get, get-entries, get-from_sorted, get_or, have_spans, inl, inr, insert, is_eq, is_lt, is_sorted, is_sorted-put, is_sorted-where_key, is_span, le-leb, leb-true, length, lt-ltb, ltb-true, map_of, nat_cmp, nat_cmp_total, nat_lt, none-some, not, of_pairs, on_total, or_cases, or_left, or_right, ordering_index, ordering_reverse, pairs, position_cmp, put, rectangle, rectangles, recursion_from_All, refl, remove, same_Some, same_spans, searchable_from_sorted, set, subst, suc, sym, then_total, true, where_key, zero, ℕ}
+use Rattle.tabled_grid.proofs.Common.{[], ◌&&◌, ◌<◌, ◌∙◌, ◌∷◌, ◌≡◌, ◌≤◌, ◌⊎◌, All-filter, All-from_recursion, AllByRecursion, AllWithin, AreAnchors, AreSorted, Bool, Equal, Err, FinMap, Greater, IsAntisymmetric, IsBinarySearchResult, IsNonDecreasingBy, IsSearchInRange, IsSpan, IsTotalOrder, Less, List, MatchResult, None, Ok, Option, Ordering, Position, Rectangle, Result, Size, Some, SpanMap, T, add-one, anchors-spans_of, and_from, and_parts, ap, arith, below_all, by_order, cases_lt, cond, elsewhere, entries, entries-from_sorted, entries_sorted, eq_by_cmp, eq_by_cmp_equiv, false, filter, find, find-put, find-where_key, from_sorted, get, get-entries, get-from_sorted, get_or, have_spans, inl, inr, insert, is_eq, is_lt, is_sorted, is_sorted-put, is_sorted-where_key, is_span, le-leb, leb-true, length, lt-ltb, ltb-true, map_of, nat_cmp, nat_cmp_total, none-some, not, of_pairs, on_total, or_cases, or_left, or_right, ordering_index, ordering_reverse, pairs, position_cmp, put, rectangle, rectangles, recursion_from_All, refl, remove, same_Some, same_spans, searchable_from_sorted, set, subst, suc, sym, then_total, true, where_key, zero, ℕ}
 use Rattle.std.specs.FinMap as finite
 use Rattle.tabled_grid.specs.Spans as spans
 use Rattle.tabled_grid.specs.Spans.{empty-is, from_rectangles}
@@ -58,25 +58,17 @@ pairs-filter test [] = refl
 pairs-filter test (e ∷ es) = elim (test e.first) as (λ b. pairs (cond b (e ∷ filter (λ (f : Rectangle). test f.first) es) (filter (λ (f : Rectangle). test f.first) es)) ≡ cond b ((e.first, e.size) ∷ where_key position_cmp test (pairs es)) (where_key position_cmp test (pairs es))) [ true ↦ ap (λ ps. (e.first, e.size) ∷ ps) (pairs-filter test es) | false ↦ pairs-filter test es ]
 
 -- the test of a size says what it says
-pub span-true : (size : Size) → is_span size ≡ true → IsSpanSize size
+pub span-true : (size : Size) → is_span size ≡ true → IsSpan size
 span-true size t =
     let parts = and_parts _ _ t in
     let each = and_parts _ _ parts.0 in
-    record { height = leb-true _ _ each.0; width = leb-true _ _ each.1; merges = either (or_cases _ _ parts.1) }
-  where
-    either : (nat_lt 1 size.height ≡ true) ⊎ (nat_lt 1 size.width ≡ true) → (1 < size.height) ⊎ (1 < size.width)
-    either (inl h) = inl (ltb-true _ _ h)
-    either (inr h) = inr (ltb-true _ _ h)
+    record { height = leb-true _ _ each.0; width = leb-true _ _ each.1; merges = elim (or_cases _ _ parts.1) [ inl h ↦ inl (ltb-true _ _ h) | inr h ↦ inr (ltb-true _ _ h) ] }
 
-pub span-from : (size : Size) → IsSpanSize size → is_span size ≡ true
-span-from size is = and_from _ _ (and_from _ _ (le-leb _ _ is.height) (le-leb _ _ is.width)) (either is.merges)
-  where
-    either : (1 < size.height) ⊎ (1 < size.width) → (nat_lt 1 size.height || nat_lt 1 size.width) ≡ true
-    either (inl h) = or_left _ _ (lt-ltb _ _ h)
-    either (inr h) = or_right _ _ (lt-ltb _ _ h)
+pub span-from : (size : Size) → IsSpan size → is_span size ≡ true
+span-from size is = and_from _ _ (and_from _ _ (le-leb _ _ is.height) (le-leb _ _ is.width)) (elim is.merges [ inl h ↦ or_left _ _ (lt-ltb _ _ h) | inr h ↦ or_right _ _ (lt-ltb _ _ h) ])
 
 abbrev pub HasSize : Rectangle → Type 0
-HasSize anchor = IsSpanSize anchor.size
+HasSize anchor = IsSpan anchor.size
 
 pub spans-listed : (es : List Rectangle) → AllByRecursion HasSize es → have_spans (pairs es) ≡ true
 spans-listed [] all = refl
@@ -113,16 +105,16 @@ pub map_of-rectangles : (m : SpanMap) → map_of (rectangles m) ≡ m
 map_of-rectangles m = same_map (map_of (rectangles m)) m (λ q. get-map_of (rectangles m) q (rectangles_anchors m) ∙ sym (get-rectangles m q))
 
 -- what is found in a list of rectangles is the size of one of them
-found_size : (es : List Rectangle) (p : Position) (size : Size) → AllByRecursion HasSize es → find_at p es ≡ Some size → IsSpanSize size
+found_size : (es : List Rectangle) (p : Position) (size : Size) → AllByRecursion HasSize es → find_at p es ≡ Some size → IsSpan size
 found_size [] p size all is = absurd (none-some size is)
-found_size (e ∷ es) p size all is = either (is_eq (position_cmp p e.first)) (found_size es p size all.1) is
+found_size (e ∷ es) p size all is = at_first (is_eq (position_cmp p e.first)) (found_size es p size all.1) is
   where
-    either : (b : Bool) → (find_at p es ≡ Some size → IsSpanSize size) → cond b (Some e.size) (find_at p es) ≡ Some size → IsSpanSize size
-    either true below h = subst IsSpanSize (same_Some e.size size h) all.0
-    either false below h = below h
+    at_first : (b : Bool) → (find_at p es ≡ Some size → IsSpan size) → cond b (Some e.size) (find_at p es) ≡ Some size → IsSpan size
+    at_first true later h = subst IsSpan (same_Some e.size size h) all.0
+    at_first false later h = later h
 
 -- each size that a map has is that of more than one cell
-pub span_at : (m : SpanMap) (p : Position) (size : Size) → get m p ≡ Some size → IsSpanSize size
+pub span_at : (m : SpanMap) (p : Position) (size : Size) → get m p ≡ Some size → IsSpan size
 span_at m p size is = found_size (rectangles m) p size (rectangles_anchors m).sizes (sym (get-rectangles m p) ∙ is)
 
 -- anchors whose places pass a test, and what their map has
@@ -143,7 +135,7 @@ pub get-remove : (m : SpanMap) (p q : Position) → get (spans.remove m p) q ≡
 get-remove m p q = get-retain m (λ x. not (eq_by_cmp position_cmp p x)) q ∙ turned (eq_by_cmp position_cmp p q) _ _ ∙ ap (λ b. cond b None (get m q)) ((eq_by_cmp_equiv positions_total).symm p q)
 
 -- anchors with one more
-sizes_put : (p : Position) (size : Size) (es : List Rectangle) → IsSpanSize size → AllByRecursion HasSize es → AllByRecursion HasSize (of_pairs (put position_cmp p size (pairs es)))
+sizes_put : (p : Position) (size : Size) (es : List Rectangle) → IsSpan size → AllByRecursion HasSize es → AllByRecursion HasSize (of_pairs (put position_cmp p size (pairs es)))
 sizes_put p size [] ok all = (ok, tt)
 sizes_put p size (e ∷ es) ok all = elim (position_cmp p e.first) as (λ o. AllByRecursion HasSize (of_pairs (by_order o ((p, size) ∷ pairs (e ∷ es)) ((e.first, size) ∷ pairs es) ((e.first, e.size) ∷ put position_cmp p size (pairs es))))) [
   | Less ↦ (ok, subst (AllByRecursion HasSize) (sym (of_pairs-pairs (e ∷ es))) all)
@@ -151,13 +143,13 @@ sizes_put p size (e ∷ es) ok all = elim (position_cmp p e.first) as (λ o. All
   | Greater ↦ (all.0, sizes_put p size es ok all.1)
 ]
 
-pub put_anchors : (p : Position) (size : Size) (es : List Rectangle) → IsSpanSize size → AreAnchors es → AreAnchors (of_pairs (put position_cmp p size (pairs es)))
+pub put_anchors : (p : Position) (size : Size) (es : List Rectangle) → IsSpan size → AreAnchors es → AreAnchors (of_pairs (put position_cmp p size (pairs es)))
 put_anchors p size es ok valid = record {
   sorted = subst (λ ps. T (is_sorted position_cmp ps)) (sym (pairs-of_pairs (put position_cmp p size (pairs es)))) (is_sorted-put position_cmp positions_total p size (pairs es) valid.sorted);
   sizes = sizes_put p size es ok valid.sizes;
 }
 
-pub get-insert : (m : SpanMap) (p : Position) (size : Size) (q : Position) → IsSpanSize size → get (spans.insert m p size) q ≡ cond (eq_by_cmp position_cmp q p) (Some size) (get m q)
+pub get-insert : (m : SpanMap) (p : Position) (size : Size) (q : Position) → IsSpan size → get (spans.insert m p size) q ≡ cond (eq_by_cmp position_cmp q p) (Some size) (get m q)
 get-insert m p size q ok =
     get-map_of (of_pairs (put position_cmp p size (pairs (rectangles m)))) q (put_anchors p size (rectangles m) ok (rectangles_anchors m))
     ∙ ap (find position_cmp q) (pairs-of_pairs (put position_cmp p size (pairs (rectangles m))))
@@ -241,10 +233,6 @@ put_missed (e ∷ es) p size zero within below past = ap (λ r. by_order r ((p, 
 put_missed (e ∷ es) p size (suc i) within below past =
     ap (λ r. by_order r ((p, size) ∷ pairs (e ∷ es)) ((e.first, size) ∷ pairs es) ((e.first, e.size) ∷ put position_cmp p size (pairs es))) (above e.first p (below 0 e (omega arith) (omega arith)))
     ∙ ap (λ ps. (e.first, e.size) ∷ ps) (put_missed es p size i (omega arith) (λ j d low high. below (suc j) d (omega arith) (omega arith)) (λ j d low high. past (suc j) d (omega arith) (omega arith)))
-
--- the rectangles that are anchored elsewhere
-abbrev pub elsewhere : Position → List Rectangle → List Rectangle
-elsewhere p es = filter (λ (e : Rectangle). not (eq_by_cmp position_cmp p e.first)) es
 
 pub without_found : (es : List Rectangle) (p : Position) (i : ℕ) (d : Rectangle) → AreSorted es → i < length es → position_cmp (get_or es i d).first p ≡ Equal → elsewhere p es ≡ remove es i
 without_found [] p i d up within same = absurd (omega arith)

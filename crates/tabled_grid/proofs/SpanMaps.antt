@@ -1,10 +1,11 @@
 -- What maps of spans have at each place, after each change.
-use Rattle.tabled_grid.proofs.Common.{[], ◌&&◌, ◌<◌, ◌∙◌, ◌∷◌, ◌≡◌, ◌≢◌, ◌≤◌, ◌⊎◌, AreSorted, Bool, Equal, Greater, Less, List, None, Option, Ordering, Position, Rectangle, Size, Some, SpanMap, and_from, and_parts, ap, ap₂, arith, cases_Bool, cases_lt, common_steps, cond, cond-false, cond-true, drop_hidden, eq-eqb, eq_by_cmp, false, false≢true, get, holds, inl, inr, is_eq, is_hidden, is_span, is_visible, le-leb, list_any, lt-ltb, none-some, not, not_from_false, not_from_true, or_cases, or_left, or_right, place, position_cmp, rectangle, rectangles, refl, same_Some, same_place, size_at, sized, subst, sym, tied_itself, true, unwrap_or, with_size}
+use Rattle.tabled_grid.proofs.Common.{[], ◌&&◌, ◌<◌, ◌∙◌, ◌∷◌, ◌≡◌, ◌≢◌, ◌≤◌, ◌⊎◌, AreSorted, Bool, Equal, Greater, In, Less, List, None, Option, Ordering, Position, Rectangle, Size, Some, SpanMap, and_from, and_parts, ap, ap₂, arith, cases_Bool, cases_lt, common_steps, cond, cond-false, cond-true, drop_hidden, eq-eqb, eq_by_cmp, false, false≢true, get, holds, inl, inr, is_eq, is_hidden, is_span, is_visible, list_any, none-some, not, not_from_false, not_from_true, or_cases, or_left, or_right, place, position_cmp, rectangle, rectangles, refl, same_Some, same_place, size_at, sized, subst, sym, tied_itself, true, unwrap_or, with_size, ℕ}
 use Rattle.tabled_grid.specs.Spans as spans
 use borrow.Author.Tests.{eqb-true}
 pub use Rattle.tabled_grid.proofs.SortedEntries.{both, halves, less}
 use Rattle.tabled_grid.proofs.SortedEntries.{Below, above, find_at, get-insert, get-rectangles, get-remove, get-retain, positions_exact, positions_total, rectangles_sorted, span-from, span-true, span_at}
-use Rattle.tabled_grid.proofs.Geometry.{Full, In, Visible, cases_place}
+use Rattle.tabled_grid.proofs.Geometry.{Full, Visible, cases_place}
+use Rattle.tabled_grid.proofs.Rectangles.{holds-from, holds-true}
 
 pub equal : (o : Ordering) → is_eq o ≡ true → o ≡ Equal
 equal Less h = cc
@@ -14,11 +15,11 @@ equal Greater h = cc
 -- a place at which a rectangle is found comes after what comes before all
 pub found_above : (p x : Position) (es : List Rectangle) (size : Size) → Below x es → find_at p es ≡ Some size → position_cmp x p ≡ Less
 found_above p x [] size below is = absurd (none-some size is)
-found_above p x (e ∷ es) size below is = either (cases_Bool (is_eq (position_cmp p e.first))) (found_above p x es size (halves _ _ below).1)
+found_above p x (e ∷ es) size below is = at_first (is_eq (position_cmp p e.first)) refl is (found_above p x es size (halves _ _ below).1)
   where
-    either : (is_eq (position_cmp p e.first) ≡ true) ⊎ (is_eq (position_cmp p e.first) ≡ false) → (find_at p es ≡ Some size → position_cmp x p ≡ Less) → position_cmp x p ≡ Less
-    either (inl t) later = subst (λ y. position_cmp x y ≡ Less) (sym (positions_exact p e.first (equal _ t))) (less _ (halves _ _ below).0)
-    either (inr f) later = later (subst (λ b. cond b (Some e.size) (find_at p es) ≡ Some size) f is)
+    at_first : (b : Bool) → is_eq (position_cmp p e.first) ≡ b → cond b (Some e.size) (find_at p es) ≡ Some size → (find_at p es ≡ Some size → position_cmp x p ≡ Less) → position_cmp x p ≡ Less
+    at_first true t is later = subst (λ y. position_cmp x y ≡ Less) (sym (positions_exact p e.first (equal _ t))) (less _ (halves _ _ below).0)
+    at_first false f is later = later is
 
 -- a rectangle that passes a test
 pub record Passes (test : Rectangle → Bool) (es : List Rectangle) : Type 0 where
@@ -29,32 +30,21 @@ pub record Passes (test : Rectangle → Bool) (es : List Rectangle) : Type 0 whe
 
 pub any-found : (test : Rectangle → Bool) (es : List Rectangle) → AreSorted es → list_any test es ≡ true → Passes test es
 any-found test [] up any = cc
-any-found test (e ∷ es) up any = either (or_cases (test e) (list_any test es) any) (any-found test es (halves _ _ up).1)
-  where
-    either : (test e ≡ true) ⊎ (list_any test es ≡ true) → (list_any test es ≡ true → Passes test es) → Passes test (e ∷ es)
-    either (inl t) go = record { anchor = e.first; size = e.size; is = ap (λ r. cond (is_eq r) (Some e.size) (find_at e.first es)) (tied_itself positions_total e.first); passes = t }
-    either (inr later) go =
-        let rest = go later in
-        let below = found_above rest.anchor e.first es rest.size (halves _ _ up).0 rest.is in
-        let apart : is_eq (position_cmp rest.anchor e.first) ≡ false = ap is_eq (above e.first rest.anchor below) in
-        record { anchor = rest.anchor; size = rest.size; is = ap (λ b. cond b (Some e.size) (find_at rest.anchor es)) apart ∙ rest.is; passes = rest.passes }
+any-found test (e ∷ es) up any = elim (or_cases (test e) (list_any test es) any) [
+  | inl t ↦ record { anchor = e.first; size = e.size; is = ap (λ r. cond (is_eq r) (Some e.size) (find_at e.first es)) (tied_itself positions_total e.first); passes = t }
+  | inr later ↦
+      let rest = any-found test es (halves _ _ up).1 later in
+      let below = found_above rest.anchor e.first es rest.size (halves _ _ up).0 rest.is in
+      record { anchor = rest.anchor; size = rest.size; is = ap (λ r. cond (is_eq r) (Some e.size) (find_at rest.anchor es)) (above e.first rest.anchor below) ∙ rest.is; passes = rest.passes }
+]
 
 pub found-any : (test : Rectangle → Bool) (es : List Rectangle) (p : Position) (size : Size) → find_at p es ≡ Some size → test (rectangle p size) ≡ true → list_any test es ≡ true
 found-any test [] p size is t = absurd (none-some size is)
-found-any test (e ∷ es) p size is t = either (cases_Bool (is_eq (position_cmp p e.first))) (λ h. found-any test es p size h t)
+found-any test (e ∷ es) p size is t = at_first (is_eq (position_cmp p e.first)) refl is (λ h. found-any test es p size h t)
   where
-    either : (is_eq (position_cmp p e.first) ≡ true) ⊎ (is_eq (position_cmp p e.first) ≡ false) → (find_at p es ≡ Some size → list_any test es ≡ true) → list_any test (e ∷ es) ≡ true
-    either (inl b) later =
-        let value = same_Some _ _ (sym (ap (λ c. cond c (Some e.size) (find_at p es)) b) ∙ is) in
-        or_left (test e) (list_any test es) (ap₂ (λ x y. test (rectangle x y)) (sym (positions_exact p e.first (equal _ b))) value ∙ t)
-    either (inr f) later = or_right (test e) (list_any test es) (later (subst (λ b. cond b (Some e.size) (find_at p es) ≡ Some size) f is))
-
--- the test of a rectangle says what it says
-pub holds-true : (e : Rectangle) (p : Position) → holds e p ≡ true → In e p
-holds-true e p t = grind (arith, common_steps, and_parts)
-
-pub holds-from : (e : Rectangle) (p : Position) → In e p → holds e p ≡ true
-holds-from e p i = and_from _ _ (and_from _ _ (le-leb _ _ i.top) (lt-ltb _ _ i.bottom)) (and_from _ _ (le-leb _ _ i.left) (lt-ltb _ _ i.right))
+    at_first : (b : Bool) → is_eq (position_cmp p e.first) ≡ b → cond b (Some e.size) (find_at p es) ≡ Some size → (find_at p es ≡ Some size → list_any test es ≡ true) → list_any test (e ∷ es) ≡ true
+    at_first true b is later = or_left (test e) (list_any test es) (ap₂ (λ x y. test (rectangle x y)) (sym (positions_exact p e.first (equal _ b))) (same_Some _ _ is) ∙ t)
+    at_first false b is later = or_right (test e) (list_any test es) (later is)
 
 pub same_place-true : (a b : Position) → same_place a b ≡ true → a ≡ b
 same_place-true a b t = let parts = and_parts _ _ t in ap₂ place (eqb-true _ _ parts.0) (eqb-true _ _ parts.1)
@@ -108,20 +98,20 @@ pub data At (m : SpanMap) (a : Position) : Type 0 where
   some : (size : Size) → get m a ≡ Some size → At m a
 
 pub at : (m : SpanMap) (a : Position) → At m a
-at m a = either (get m a) refl
+at m a = known (get m a) refl
   where
-    either : (s : Option Size) → get m a ≡ s → At m a
-    either None e = none e
-    either (Some size) e = some size e
+    known : (s : Option Size) → get m a ≡ s → At m a
+    known None e = none e
+    known (Some size) e = some size e
 
 -- a visible place is in no other rectangle
 pub visible : (m : SpanMap) (p : Position) → is_visible m p ≡ true → Visible (size_at m) p
-visible m p shown a holds = by_anchor (at m a) (cases_place a p)
+visible m p shown a holds = at_itself (at m a) (cases_place a p)
   where
-    by_anchor : At m a → (a ≡ p) ⊎ (a ≢ p) → a ≡ p
-    by_anchor s (inl e) = e
-    by_anchor (none e) (inr n) = let h = rw (size_at-none m a e) at holds in absurd (n (ap₂ place (omega (arith, h.top, h.bottom)) (omega (arith, h.left, h.right))))
-    by_anchor (some size e) (inr n) =
+    at_itself : At m a → (a ≡ p) ⊎ (a ≢ p) → a ≡ p
+    at_itself s (inl e) = e
+    at_itself (none e) (inr n) = let h = rw (size_at-none m a e) at holds in absurd (n (ap₂ place (omega (arith, h.top, h.bottom)) (omega (arith, h.left, h.right))))
+    at_itself (some size e) (inr n) =
         let hidden = hidden-from m a p size e (rw (size_at-some m a size e) at holds) n in
         let never : false ≡ true = sym (not_from_true _ hidden) ∙ shown in cc
 
@@ -137,24 +127,21 @@ untied q p n = grind (arith, common_steps, cases_Bool, positions_exact, equal)
 
 -- a size that is not that of more than one cell is that of one, or is empty
 pub one_cell : (size : Size) → 1 ≤ size.height → 1 ≤ size.width → is_span size ≡ false → size ≡ sized 1 1
-one_cell size tall wide f = either (cases_lt 1 size.height) (cases_lt 1 size.width)
+one_cell size tall wide f = ap₂ sized (alone size.height tall (λ more. never (inl more))) (alone size.width wide (λ more. never (inr more)))
   where
     never : (1 < size.height) ⊎ (1 < size.width) → ⊥
     never more = false≢true (sym f ∙ span-from size (record { height = tall; width = wide; merges = more }))
 
-    either : (1 < size.height) ⊎ (size.height ≤ 1) → (1 < size.width) ⊎ (size.width ≤ 1) → size ≡ sized 1 1
-    either (inl h) w = absurd (never (inl h))
-    either (inr h) (inl w) = absurd (never (inr w))
-    either (inr h) (inr w) = ap₂ sized (omega arith) (omega arith)
+    alone : (n : ℕ) → 1 ≤ n → (1 < n → ⊥) → n ≡ 1
+    alone n least more = elim (cases_lt 1 n) [ inl h ↦ absurd (more h) | inr h ↦ omega arith ]
 
 -- what the map has at the place whose size was set, and elsewhere
 module _ (m : SpanMap) (p : Position) (size : Size) where
   pub with_size-other : (q : Position) → q ≢ p → get (with_size m p size) q ≡ get m q
-  with_size-other q n = either (cases_Bool (is_span size))
-    where
-      either : (is_span size ≡ true) ⊎ (is_span size ≡ false) → get (with_size m p size) q ≡ get m q
-      either (inl t) = rw t (get-insert m p size q (span-true size t) ∙ cond-false _ _ _ (untied q p n))
-      either (inr f) = rw f (get-remove m p q ∙ cond-false _ _ _ (untied q p n))
+  with_size-other q n = elim (cases_Bool (is_span size)) [
+    | inl t ↦ rw t (get-insert m p size q (span-true size t) ∙ cond-false _ _ _ (untied q p n))
+    | inr f ↦ rw f (get-remove m p q ∙ cond-false _ _ _ (untied q p n))
+  ]
 
   pub size_at-with_size-other : (q : Position) → q ≢ p → size_at (with_size m p size) q ≡ size_at m q
   size_at-with_size-other q n = ap (λ (s : Option Size). unwrap_or s (sized 1 1)) (with_size-other q n)
@@ -166,11 +153,7 @@ module _ (m : SpanMap) (p : Position) (size : Size) where
   size_at-with_none f = rw f (size_at-none (spans.remove m p) p (get-remove m p p ∙ cond-true _ _ _ (tied p)))
 
   pub size_at-with_size : 1 ≤ size.height → 1 ≤ size.width → size_at (with_size m p size) p ≡ size
-  size_at-with_size tall wide = either (cases_Bool (is_span size))
-    where
-      either : (is_span size ≡ true) ⊎ (is_span size ≡ false) → size_at (with_size m p size) p ≡ size
-      either (inl t) = size_at-with_span t
-      either (inr f) = size_at-with_none f ∙ sym (one_cell size tall wide f)
+  size_at-with_size tall wide = elim (cases_Bool (is_span size)) [ inl t ↦ size_at-with_span t | inr f ↦ size_at-with_none f ∙ sym (one_cell size tall wide f) ]
 
 -- what is left after hidden anchors are dropped
 pub get-drop_hidden : (m : SpanMap) (q : Position) → get (drop_hidden m) q ≡ cond (is_visible m q) (get m q) None

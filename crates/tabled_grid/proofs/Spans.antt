@@ -1,8 +1,8 @@
 -- Lists of rectangles after an edit, and the maps that they make.
-use Rattle.tabled_grid.proofs.Common.{◌<◌, ◌≡◌, ◌≤◌, AllByRecursion, AreAnchors, AreSorted, Equal, Err, HoldsAt, IsBinarySearchResult, IsSpanSize, List, Position, Rectangle, Size, SpanMap, T, all-insert, all-remove, all-set, eq_by_cmp, insert, is_sorted, is_sorted-put, length, map_of, not, pairs, position_cmp, put, rectangle, remove, set, subst, sym, ℕ}
+use Rattle.tabled_grid.proofs.Common.{◌<◌, ◌≡◌, ◌≤◌, AllByRecursion, AreAnchors, AreSorted, Equal, Err, HoldsAt, IsBinarySearchResult, IsSpan, List, Position, Rectangle, Size, SpanMap, T, all-insert, all-remove, all-set, elsewhere, eq_by_cmp, insert, is_sorted, is_sorted-put, length, map_of, not, pairs, position_cmp, put, rectangle, remove, set, subst, sym, ℕ}
 use Rattle.tabled_grid.specs.Spans as spans
 pub use Rattle.tabled_grid.proofs.SortedEntries.{positions_exact, positions_total}
-use Rattle.tabled_grid.proofs.SortedEntries.{HasSize, elsewhere, filter_anchors, map_put, map_without, put_found, put_missed, searchable, without_found, without_missed}
+use Rattle.tabled_grid.proofs.SortedEntries.{HasSize, filter_anchors, map_put, map_without, put_found, put_missed, searchable, without_found, without_missed}
 
 -- a list of rectangles, and the map that it makes
 pub record Makes (anchors : List Rectangle) (m : SpanMap) : Type 0 where
@@ -22,12 +22,12 @@ module _ (anchors : List Rectangle) (valid : AreAnchors anchors) (p : Position) 
         is = rw is (map_without anchors p valid);
       }
 
-  pub set_anchor : (size : Size) (i : ℕ) → IsSpanSize size → i < length anchors → HoldsAt (λ (anchor : Rectangle). position_cmp anchor.first p ≡ Equal) anchors i → Makes (set anchors i (rectangle p size)) (spans.insert (map_of anchors) p size)
+  pub set_anchor : (size : Size) (i : ℕ) → IsSpan size → i < length anchors → HoldsAt (λ (anchor : Rectangle). position_cmp anchor.first p ≡ Equal) anchors i → Makes (set anchors i (rectangle p size)) (spans.insert (map_of anchors) p size)
   set_anchor size i ok within at =
       with_anchor (set anchors i (rectangle p size)) size (all-set HasSize anchors i (rectangle p size) valid.sizes ok)
       (sym (put_found anchors p size i (rectangle p size) valid.sorted within (at (rectangle p size))))
 
-  pub insert_anchor : (size : Size) (i : ℕ) → IsSpanSize size → i ≤ length anchors → IsBinarySearchResult (λ (anchor : Rectangle). position_cmp anchor.first p) anchors (Err i) → Makes (insert anchors i (rectangle p size)) (spans.insert (map_of anchors) p size)
+  pub insert_anchor : (size : Size) (i : ℕ) → IsSpan size → i ≤ length anchors → IsBinarySearchResult (λ (anchor : Rectangle). position_cmp anchor.first p) anchors (Err i) → Makes (insert anchors i (rectangle p size)) (spans.insert (map_of anchors) p size)
   insert_anchor size i ok within at =
       let parts = at (searchable anchors p valid.sorted) in
       with_anchor (insert anchors i (rectangle p size)) size (all-insert HasSize anchors i (rectangle p size) valid.sizes ok)

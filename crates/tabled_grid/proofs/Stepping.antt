@@ -1,8 +1,8 @@
 -- Which cells of a table a step over rows and columns reaches.
-use Rattle.tabled_grid.proofs.Common.{◌%◌, ◌&&◌, ◌+◌, ◌<◌, ◌^◌, ◌||◌, ◌↔◌, ◌≡◌, ◌≢◌, ◌≤◌, ◌⊎◌, List, Position, Rectangle, Size, Steps, and_from, and_parts, ap, ap₂, arith, beyond, both_ways, cases_eq, cases_lt, common_steps, eq-eqb, false, false_from_ne_true, false≢true, get_or, hides, in_run, inl, inr, le-leb, lt-ltb, ltb-true, max, min, nat_lt, not_from_false, not_from_true, or_cases, or_left, or_right, place, refl, same_place, set, sym, true, ℕ}
+use Rattle.tabled_grid.proofs.Common.{◌%◌, ◌&&◌, ◌+◌, ◌<◌, ◌^◌, ◌||◌, ◌↔◌, ◌≡◌, ◌≢◌, ◌≤◌, ◌⊎◌, In, List, Position, Rectangle, Size, Steps, and_from, and_parts, ap, ap₂, arith, beyond, both_ways, cases_eq, cases_lt, common_steps, eq-eqb, false, false_from_ne_true, false≢true, get_or, hides, in_run, inl, inr, le-leb, lt-ltb, ltb-true, max, min, nat_lt, not_from_false, not_from_true, or_cases, or_left, or_right, place, refl, same_place, set, sym, true, ℕ}
 use Rattle.std.specs.Prelude.{◌-◌, ◌*◌}
-use Rattle.tabled_grid.proofs.Geometry.{In}
-use Rattle.tabled_grid.proofs.SpanMaps.{holds-from, holds-true, same_place-apart, same_place-true, same_place-self}
+use Rattle.tabled_grid.proofs.SpanMaps.{same_place-apart, same_place-true, same_place-self}
+use Rattle.tabled_grid.proofs.Rectangles.{holds-from, holds-true}
 use Rattle.tabled_grid.proofs.Tables.{steps_joined, steps_nowhere, steps_one, steps_same}
 
 record InRun (i : ℕ) (run : ℕ × ℕ) (p : Position) : Type 0 where

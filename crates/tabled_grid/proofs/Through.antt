@@ -1,14 +1,10 @@
 -- Cells moved from one grid to another one of blanks, through a map of places.
-use Rattle.tabled_grid.proofs.Common.{[], ◌*◌, ◌+◌, ◌<◌, ◌∙◌, ◌∷◌, ◌≡◌, ◌≢◌, ◌≤◌, ◌⊎◌, All-from_recursion, AllByRecursion, AreBlanks, Exchanges, Grid, IfSome, IsEven, IsInside, List, None, Option, Places, Position, Some, TakesOnce, Within, all-drop, all-take, ap, arith, cases_eq, cell_at, chunks, common_steps, drop, grid_of, inl, inr, length, length-drop, length-take-le, none-some, place, refl, same_Some, subst, suc, sym, width_of, zero, ℕ}
+use Rattle.tabled_grid.proofs.Common.{[], ◌*◌, ◌+◌, ◌<◌, ◌∙◌, ◌∷◌, ◌≡◌, ◌≢◌, ◌⊎◌, All-from_recursion, AllByRecursion, AreBlanks, Exchanges, Grid, IfSome, IsBefore, IsEven, IsFrom, IsInside, List, None, Option, Places, Position, Some, TakesOnce, Within, all-drop, all-take, ap, arith, cell_at, chunks, common_steps, drop, grid_of, inl, inr, length, length-drop, length-take-le, none-some, place, refl, same_Some, subst, suc, sym, width_of, zero, ℕ}
 use Rattle.tabled_grid.proofs.AddedLines.{blank_at}
 use Rattle.tabled_grid.proofs.AddedRows.{wide_blanks}
+use Rattle.tabled_grid.proofs.Geometry.{cases_place}
 use Rattle.tabled_grid.proofs.Grids.{IsEven-with_cell, cell_at-with_cell_other, cell_at-with_cell_same}
-
-abbrev Before : ℕ → ℕ → Position → Type 0
-Before i j p = (p.row < i) ⊎ ((p.row ≡ i) × (p.col < j))
-
-abbrev NotBefore : ℕ → ℕ → Position → Type 0
-NotBefore i j p = (i < p.row) ⊎ ((p.row ≡ i) × (j ≤ p.col))
+use Rattle.tabled_grid.proofs.Order.{before_first, before_or_at}
 
 -- the cells of the new places before one, row by row, have come there; the others have not moved yet, and where no cell has come there is a blank
 pub record MovesThrough {A : Type 0} (is_blank : A → Type 0) (places : Places) (i j : ℕ) (old now new : Grid A) : Type 0 where
@@ -18,26 +14,22 @@ pub record MovesThrough {A : Type 0} (is_blank : A → Type 0) (places : Places)
   pub even : IsEven new
   pub rows : new.rows ≡ places.rows
   pub columns : new.columns ≡ places.columns
-  pub done : (p q : Position) → Within places p → Before i j p → places.old_place p ≡ Some q → cell_at new p ≡ cell_at old q
-  pub left : (p q : Position) → Within places p → NotBefore i j p → places.old_place p ≡ Some q → cell_at now q ≡ cell_at old q
-  pub blank : (p : Position) → Within places p → NotBefore i j p ⊎ (places.old_place p ≡ None) → (c : A) × is_blank c × (cell_at new p ≡ Some c)
+  pub done : (p q : Position) → Within places p → IsBefore p (place i j) → places.old_place p ≡ Some q → cell_at new p ≡ cell_at old q
+  pub left : (p q : Position) → Within places p → IsFrom p (place i j) → places.old_place p ≡ Some q → cell_at now q ≡ cell_at old q
+  pub blank : (p : Position) → Within places p → IsFrom p (place i j) ⊎ (places.old_place p ≡ None) → (c : A) × is_blank c × (cell_at new p ≡ Some c)
 
 if_some : (o : Option Position) (P : Position → Type 0) → ((q : Position) → o ≡ Some q → P q) → IfSome o P
 if_some None P h = tt
 if_some (Some q) P h = h q refl
 
-same_or : (p : Position) (i j : ℕ) → (p ≡ place i j) ⊎ (p ≢ place i j)
-same_or p i j = grind (arith, common_steps, cases_eq)
+earlier : (p : Position) (i j next : ℕ) → next ≡ j + 1 → IsBefore p (place i next) → p ≢ place i j → IsBefore p (place i j)
+earlier p i j next e before off = elim (before_or_at i j p (rw e at before)) [ inl b ↦ b | inr same ↦ absurd (off same) ]
 
-earlier : (p : Position) (i j next : ℕ) → next ≡ j + 1 → Before i next p → p ≢ place i j → Before i j p
-earlier p i j next e (inl less) off = inl less
-earlier p i j next e (inr (at, below)) off = grind (arith, common_steps, cases_eq)
-
-later : (p : Position) (i j next : ℕ) → next ≡ j + 1 → NotBefore i next p → NotBefore i j p
+later : (p : Position) (i j next : ℕ) → next ≡ j + 1 → IsFrom p (place i next) → IsFrom p (place i j)
 later p i j next e (inl more) = inl more
 later p i j next e (inr (at, from)) = inr (at, omega (arith, from, e))
 
-off_place : (p : Position) (i j next : ℕ) → next ≡ j + 1 → NotBefore i next p → p ≢ place i j
+off_place : (p : Position) (i j next : ℕ) → next ≡ j + 1 → IsFrom p (place i next) → p ≢ place i j
 off_place p i j next e (inl more) same = let row = ap (λ (p : Position). p.row) same in absurd (omega (arith, row, more))
 off_place p i j next e (inr (at, from)) same = let col = ap (λ (p : Position). p.col) same in absurd (omega (arith, col, from, e))
 
@@ -62,14 +54,10 @@ module _ {A : Type 0} (is_blank : A → Type 0) (places : Places) (old : Grid A)
     even = even;
     rows = rows;
     columns = columns_are ∙ same;
-    done = λ p q w before is. none p q before;
+    done = λ p q w before is. absurd (before_first p before);
     left = λ p q w after is. refl;
     blank = λ p w after. blank_cell is_blank columns new p even blanks (omega (arith, rows, w.row)) (omega (arith, same, w.col));
   }
-    where
-      none : (p q : Position) → Before 0 0 p → cell_at new p ≡ cell_at old q
-      none p q (inl less) = absurd (omega (arith, less))
-      none p q (inr (at, less)) = absurd (omega (arith, less))
 
   module _ (i j next : ℕ) (e : next ≡ j + 1) (now new : Grid A) (m : MovesThrough is_blank places i j old now new) where
     -- no cell comes to a place
@@ -92,7 +80,7 @@ module _ {A : Type 0} (is_blank : A → Type 0) (places : Places) (old : Grid A)
         even = rw x.is_there (IsEven-with_cell new (place i j) x.here m.even);
         rows = ap (λ (g : Grid A). g.rows) x.is_there ∙ m.rows;
         columns = ap (λ (g : Grid A). g.columns) x.is_there ∙ m.columns;
-        done = λ p q w before is. done p q w before is (same_or p i j);
+        done = λ p q w before is. done p q w before is (cases_place p (place i j));
         left = λ p q w after is. left p q w after is;
         blank = λ p w which. blank p w which;
       }
@@ -100,7 +88,7 @@ module _ {A : Type 0} (is_blank : A → Type 0) (places : Places) (old : Grid A)
           kept : (p : Position) → p ≢ place i j → cell_at new_new p ≡ cell_at new p
           kept p off = ap (λ (g : Grid A). cell_at g p) x.is_there ∙ cell_at-with_cell_other new (place i j) p x.here off
 
-          done : (p q : Position) → Within places p → Before i next p → places.old_place p ≡ Some q → (p ≡ place i j) ⊎ (p ≢ place i j) → cell_at new_new p ≡ cell_at old q
+          done : (p q : Position) → Within places p → IsBefore p (place i next) → places.old_place p ≡ Some q → (p ≡ place i j) ⊎ (p ≢ place i j) → cell_at new_new p ≡ cell_at old q
           done p q w before is (inl same) =
               let old_is : from ≡ q = same_Some from q (sym takes ∙ ap places.old_place (sym same) ∙ is) in
               ap (cell_at new_new) same
@@ -111,14 +99,14 @@ module _ {A : Type 0} (is_blank : A → Type 0) (places : Places) (old : Grid A)
               ∙ ap (cell_at old) old_is
           done p q w before is (inr off) = kept p off ∙ m.done p q w (earlier p i j next e before off) is
 
-          left : (p q : Position) → Within places p → NotBefore i next p → places.old_place p ≡ Some q → cell_at new_now q ≡ cell_at old q
+          left : (p q : Position) → Within places p → IsFrom p (place i next) → places.old_place p ≡ Some q → cell_at new_now q ≡ cell_at old q
           left p q w after is =
               let off : q ≢ from = λ same. off_place p i j next e after (t.apart p (place i j) q w here is (takes ∙ ap Some (sym same))) in
               ap (λ (g : Grid A). cell_at g q) x.is_here
               ∙ cell_at-with_cell_other now from q x.there off
               ∙ m.left p q w (later p i j next e after) is
 
-          blank : (p : Position) → Within places p → NotBefore i next p ⊎ (places.old_place p ≡ None) → (c : A) × is_blank c × (cell_at new_new p ≡ Some c)
+          blank : (p : Position) → Within places p → IsFrom p (place i next) ⊎ (places.old_place p ≡ None) → (c : A) × is_blank c × (cell_at new_new p ≡ Some c)
           blank p w (inl after) = let c = m.blank p w (inl (later p i j next e after)) in (c.0, c.1, kept p (off_place p i j next e after) ∙ c.2)
           blank p w (inr none) = let c = m.blank p w (inr none) in (c.0, c.1, kept p (λ same. none-some from (sym none ∙ ap places.old_place same ∙ takes)) ∙ c.2)
 

@@ -1,7 +1,7 @@
 -- Lists of rectangles, row by row.
-use Rattle.std.specs.Prelude.{◌+◌, ◌&&◌, ◌||◌, ◌==◌, ℕ, Bool, true, if◌then◌else◌, List, [], ◌∷◌, map, nat_le, nat_lt, not}
+use Rattle.std.specs.Prelude.{◌+◌, ◌&&◌, ◌||◌, ◌==◌, Bool, if◌then◌else◌, List, [], ◌∷◌, map, nat_le, not}
 use Rattle.std.specs.FinMap.Entries.{put}
-use Rattle.std.specs.List.{filter, fold, list_all, list_any}
+use Rattle.std.specs.List.{filter, fold, list_any}
 use Rattle.std.specs.Ordering.{eq_by_cmp, is_eq}
 use Rattle.tabled_grid.specs.declared.config.position.Position.{Position}
 use Rattle.tabled_grid.specs.Rectangles.{holds}
@@ -9,9 +9,13 @@ use Rattle.tabled_grid.specs.Entity.{same_place}
 use Rattle.tabled_grid.specs.Spans.{is_cell, of_pairs, pairs, position_cmp, rectangle, sized}
 use Rattle.tabled_grid.specs.declared.config.rectangle.Rectangle.{Rectangle}
 
+-- the rectangles of a list that are anchored at other places
+abbrev pub elsewhere : Position → List Rectangle → List Rectangle
+elsewhere p es = filter (λ (e : Rectangle). not (eq_by_cmp position_cmp p e.first)) es
+
 -- the rectangles with one more, in place of that at its anchor, where one of one cell is none
 abbrev pub with_size_in : List Rectangle → Rectangle → List Rectangle
-with_size_in es e = if is_cell e.size then filter (λ (f : Rectangle). not (eq_by_cmp position_cmp e.first f.first)) es else of_pairs (put position_cmp e.first e.size (pairs es))
+with_size_in es e = if is_cell e.size then elsewhere e.first es else of_pairs (put position_cmp e.first e.size (pairs es))
 
 -- the rectangles with one more after another
 abbrev pub with_sizes_in : List Rectangle → List Rectangle → List Rectangle
@@ -46,20 +50,3 @@ marked (e ∷ es) = e ∷ map (unless_held e) (marked es)
 -- the place comes after all cells of the rectangle
 abbrev pub is_past : Rectangle → Position → Bool
 is_past a p = nat_le a.first.row p.row && (nat_le (a.first.row + a.size.height) p.row || ((a.first.row + a.size.height == p.row + 1) && nat_le (a.first.col + a.size.width) p.col))
-
--- the rectangles of two anchors share a cell
-abbrev pub meets : Rectangle → Rectangle → Bool
-meets a b = (nat_lt a.first.row (b.first.row + b.size.height) && nat_lt b.first.row (a.first.row + a.size.height)) && (nat_lt a.first.col (b.first.col + b.size.width) && nat_lt b.first.col (a.first.col + a.size.width))
-
--- the rectangle lies inside a table
-abbrev pub lies_inside : ℕ → ℕ → Rectangle → Bool
-lies_inside rows columns e = nat_le (e.first.row + e.size.height) rows && nat_le (e.first.col + e.size.width) columns
-
--- none of the rectangles meets one after it
-abbrev pub are_apart : List Rectangle → Bool
-are_apart [] = true
-are_apart (e ∷ es) = list_all (λ (f : Rectangle). not (meets e f)) es && are_apart es
-
--- all rectangles lie inside a table, and no two of them share a cell
-abbrev pub lie_well : ℕ → ℕ → List Rectangle → Bool
-lie_well rows columns es = list_all (lies_inside rows columns) es && are_apart es

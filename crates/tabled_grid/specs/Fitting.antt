@@ -1,26 +1,37 @@
 -- Where merged cells fit a table, and which of them do.
-use Rattle.std.specs.Prelude.{◌≡◌, ◌+◌, ◌≤◌, ◌&&◌, ◌||◌, ℕ, Bool, IsTrue, List, Some, [], ◌∷◌, not}
+use Rattle.std.specs.Prelude.{◌≡◌, ◌&&◌, ◌||◌, ℕ, Bool, true, List, Some, [], ◌∷◌, not}
 use Rattle.std.specs.List.{filter, list_all}
-use Rattle.tabled_grid.specs.Anchors.{lies_inside, meets}
-use Rattle.tabled_grid.specs.Entity.{same_place}
-use Rattle.tabled_grid.specs.Rectangles.{holds}
-use Rattle.tabled_grid.specs.Spans.{SpanMap, get, map_of, rectangle, rectangles}
+use Rattle.tabled_grid.specs.Anchors.{elsewhere}
+use Rattle.tabled_grid.specs.Rectangles.{In, LiesInside, lies_inside, meets}
+use Rattle.tabled_grid.specs.Spans.{SpanMap, get, map_of, rectangles}
 use Rattle.tabled_grid.specs.declared.config.position.Position.{Position}
 use Rattle.tabled_grid.specs.declared.config.rectangle.Rectangle.{Rectangle}
-use Rattle.tabled_grid.specs.declared.config.size.Size.{Size}
 
--- all rectangles lie inside a table, and those that share a cell are one
-pub record Fits (m : SpanMap) (rows columns : ℕ) : Type 0 where
-  pub inside : (a : Position) (size : Size) → get m a ≡ Some size → (a.row + size.height ≤ rows) × (a.col + size.width ≤ columns)
-  pub apart : (a b : Position) (s t : Size) (p : Position) → get m a ≡ Some s → get m b ≡ Some t → IsTrue (holds (rectangle a s) p) → IsTrue (holds (rectangle b t) p) → a ≡ b
-
--- a rectangle lies inside a table, and shares no cell with another one of a list
+-- a rectangle lies inside a table, and shares no cell with others
 abbrev pub fits_among : ℕ → ℕ → List Rectangle → Rectangle → Bool
-fits_among rows columns es e = lies_inside rows columns e && list_all (λ (f : Rectangle). same_place e.first f.first || not (meets e f)) es
+fits_among rows columns others e = lies_inside rows columns e && list_all (λ (f : Rectangle). not (meets e f)) others
 
--- the rectangles of a list that do
+-- it does so among those of a map that are anchored elsewhere
+pub record FitsAmong (m : SpanMap) (rows columns : ℕ) (e : Rectangle) : Type 0 where
+  pub inside : LiesInside rows columns e
+  pub alone : (f : Rectangle) (p : Position) → get m f.first ≡ Some f.size → In e p → In f p → e.first ≡ f.first
+
+-- each rectangle of a list fits among those after it
+abbrev pub all_fit : ℕ → ℕ → List Rectangle → Bool
+all_fit rows columns [] = true
+all_fit rows columns (e ∷ es) = fits_among rows columns es e && all_fit rows columns es
+
+-- the rectangles of a list fit some table: no two of them share a cell
+abbrev pub AreApart : List Rectangle → Type 0
+AreApart es = (rows : ℕ) × (columns : ℕ) × (all_fit rows columns es ≡ true)
+
+-- each rectangle of a map fits among the others
+pub record Fits (m : SpanMap) (rows columns : ℕ) : Type 0 where
+  pub each : (e : Rectangle) → get m e.first ≡ Some e.size → FitsAmong m rows columns e
+
+-- the rectangles of a list that fit among the others
 abbrev pub fitting : ℕ → ℕ → List Rectangle → List Rectangle
-fitting rows columns es = filter (fits_among rows columns es) es
+fitting rows columns es = filter (λ (e : Rectangle). fits_among rows columns (elsewhere e.first es) e) es
 
 -- a mark for each anchor of a list, set where another's rectangle meets it
 abbrev pub with_met : Rectangle → List Rectangle → List Bool → List Bool

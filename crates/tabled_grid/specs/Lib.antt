@@ -14,6 +14,7 @@ pub mod Grid
 pub mod Hidden
 pub mod Midway
 pub mod Moves
+pub mod Order
 pub mod Pieces
 pub mod Places
 pub mod Rectangles

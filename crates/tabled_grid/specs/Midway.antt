@@ -1,20 +1,13 @@
 -- What holds of rectangles while a span option sets one after another: they may meet, and lie inside.
 use Rattle.std.specs.Prelude.{◌≡◌, ◌+◌, ◌<◌, ◌≤◌, ◌⊎◌, ℕ}
+use Rattle.tabled_grid.specs.Rectangles.{In}
 use Rattle.tabled_grid.specs.Spans.{SpanMap, rectangle, size_at}
 use Rattle.tabled_grid.specs.declared.config.position.Position.{Position}
-use Rattle.tabled_grid.specs.declared.config.rectangle.Rectangle.{Rectangle}
 use Rattle.tabled_grid.specs.declared.config.size.Size.{Size}
 
 -- the size of the rectangle at each place, that of one cell where nothing is merged
 abbrev pub Sizes : Type 0
 Sizes = Position → Size
-
--- the place is in the rectangle
-pub record In (e : Rectangle) (p : Position) : Type 0 where
-  pub top : e.first.row ≤ p.row
-  pub bottom : p.row < e.first.row + e.size.height
-  pub left : e.first.col ≤ p.col
-  pub right : p.col < e.first.col + e.size.width
 
 -- of two rectangles that share a cell, one has its first cell in the other
 pub record Hooked (s : Sizes) : Type 0 where

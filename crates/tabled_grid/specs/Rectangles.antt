@@ -1,5 +1,5 @@
--- Rectangles of merged cells, and which places they hold or reach.
-use Rattle.std.specs.Prelude.{◌+◌, ◌&&◌, ◌==◌, if◌then◌else◌, ℕ, Bool, List, None, Some, filter_map, nat_le, nat_lt}
+-- Rectangles of merged cells: which places they hold or reach, and which others they meet.
+use Rattle.std.specs.Prelude.{◌+◌, ◌<◌, ◌≤◌, ◌&&◌, ◌==◌, if◌then◌else◌, ℕ, Bool, List, None, Some, filter_map, nat_le, nat_lt}
 use Rattle.std.specs.List.{list_any}
 use Rattle.tabled_grid.specs.Spans.{SpanMap, rectangles}
 use Rattle.tabled_grid.specs.declared.config.position.Position.{Position}
@@ -8,6 +8,38 @@ use Rattle.tabled_grid.specs.declared.config.rectangle.Rectangle.{Rectangle}
 -- the rectangle holds the place
 abbrev pub holds : Rectangle → Position → Bool
 holds e p = (nat_le e.first.row p.row && nat_lt p.row (e.first.row + e.size.height)) && (nat_le e.first.col p.col && nat_lt p.col (e.first.col + e.size.width))
+
+-- the place is in the rectangle
+pub record In (e : Rectangle) (p : Position) : Type 0 where
+  pub top : e.first.row ≤ p.row
+  pub bottom : p.row < e.first.row + e.size.height
+  pub left : e.first.col ≤ p.col
+  pub right : p.col < e.first.col + e.size.width
+
+-- the rectangle has cells
+pub record HasArea (e : Rectangle) : Type 0 where
+  pub height : 1 ≤ e.size.height
+  pub width : 1 ≤ e.size.width
+
+-- two rectangles share a cell, where both have some
+abbrev pub meets : Rectangle → Rectangle → Bool
+meets a b = (nat_lt a.first.row (b.first.row + b.size.height) && nat_lt b.first.row (a.first.row + a.size.height)) && (nat_lt a.first.col (b.first.col + b.size.width) && nat_lt b.first.col (a.first.col + a.size.width))
+
+-- each begins before the end of the other, in rows and in columns
+pub record Meets (a b : Rectangle) : Type 0 where
+  pub above : a.first.row < b.first.row + b.size.height
+  pub below : b.first.row < a.first.row + a.size.height
+  pub left : a.first.col < b.first.col + b.size.width
+  pub right : b.first.col < a.first.col + a.size.width
+
+-- the rectangle lies inside a table
+abbrev pub lies_inside : ℕ → ℕ → Rectangle → Bool
+lies_inside rows columns e = nat_le (e.first.row + e.size.height) rows && nat_le (e.first.col + e.size.width) columns
+
+-- its rows and its columns end inside the table
+pub record LiesInside (rows columns : ℕ) (e : Rectangle) : Type 0 where
+  pub bottom : e.first.row + e.size.height ≤ rows
+  pub right : e.first.col + e.size.width ≤ columns
 
 -- an anchor in the place's row, left of it, has a width that reaches it
 abbrev pub reaches_across : Rectangle → Position → Bool

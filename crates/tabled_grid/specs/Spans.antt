@@ -48,7 +48,13 @@ AreSorted es = T (is_sorted position_cmp (pairs es))
 abbrev pub is_span : Size → Bool
 is_span size = (nat_le 1 size.height && nat_le 1 size.width) && (nat_lt 1 size.height || nat_lt 1 size.width)
 
--- all sizes of a list are
+-- a height and a width of at least 1, one of which is more
+pub record IsSpan (size : Size) : Type 0 where
+  pub height : 1 ≤ size.height
+  pub width : 1 ≤ size.width
+  pub merges : (1 < size.height) ⊎ (1 < size.width)
+
+-- all sizes of a list are those of more than one cell
 abbrev pub have_spans : List (Position × Size) → Bool
 have_spans ps = list_all (λ (p : Position × Size). is_span p.1) ps
 
@@ -118,16 +124,10 @@ get m p = finite.get m.anchors p
 abbrev pub size_at : SpanMap → Position → Size
 size_at m p = unwrap_or (get m p) (sized 1 1)
 
--- the size of more than one cell
-pub record IsSpanSize (size : Size) : Type 0 where
-  pub height : 1 ≤ size.height
-  pub width : 1 ≤ size.width
-  pub merges : (1 < size.height) ⊎ (1 < size.width)
-
 -- rectangles of more than one cell each, row by row
 pub record AreAnchors (anchors : List Rectangle) : Type 0 where
   pub sorted : AreSorted anchors
-  pub sizes : AllByRecursion (λ (anchor : Rectangle). IsSpanSize anchor.size) anchors
+  pub sizes : AllByRecursion (λ (anchor : Rectangle). IsSpan anchor.size) anchors
 
 -- the map with a size of more than one cell at a place
 abbrev pub insert : SpanMap → Position → Size → SpanMap
@@ -149,11 +149,6 @@ remove m p = retain m (λ q. not (eq_by_cmp position_cmp p q))
 -- the map with a size at a place, where only the size of more than one cell is an anchor
 abbrev pub with_size : SpanMap → Position → Size → SpanMap
 with_size m p size = if is_span size then insert m p size else remove m p
-
--- a height and a width of at least 1, at some place
-pub record IsSizeAt (change : Rectangle) : Type 0 where
-  pub height : 1 ≤ change.size.height
-  pub width : 1 ≤ change.size.width
 
 -- the map with one size after another, of which the later ones count
 abbrev pub with_sizes : SpanMap → List Rectangle → SpanMap

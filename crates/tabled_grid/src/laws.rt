@@ -4,12 +4,13 @@ ghost use Rattle.std.specs.Prelude.{◌≡◌, ◌+◌, ◌<◌, ◌≤◌, ℕ,
 ghost use Rattle.std.specs.Ordering.{nat_cmp};
 ghost use Rattle.std.specs.declared.cmp.Ordering.TheVariants.{Less};
 ghost use Rattle.tabled_grid.specs.Entity.{place};
-ghost use Rattle.tabled_grid.specs.Midway.{Flat, In, Midway, Narrow, LieWithin};
+ghost use Rattle.tabled_grid.specs.Midway.{Flat, Midway, Narrow, LieWithin};
+ghost use Rattle.tabled_grid.specs.Rectangles.{In};
 ghost use Rattle.tabled_grid.specs.Hidden.{drop_hidden, is_visible};
 ghost use Rattle.tabled_grid.specs.Fitting.{Fits};
 ghost use Rattle.tabled_grid.specs.Axis.{line_of};
 ghost use Rattle.tabled_grid.specs.Shifts.{is_crossed, shifted};
-ghost use Rattle.tabled_grid.specs.Spans.{IsSpanSize, SpanMap, get, position_cmp, rectangle, size_at, with_column_span, with_row_span, with_size};
+ghost use Rattle.tabled_grid.specs.Spans.{IsSpan, SpanMap, get, position_cmp, rectangle, size_at, with_column_span, with_row_span, with_size};
 ghost use Rattle.tabled_grid.specs.declared.config.position.Position.{Position};
 ghost use Rattle.tabled_grid.specs.declared.config.entity.Entity.TheVariants.{Cell, Column, Global, Row};
 ghost use Rattle.tabled_grid.specs.declared.config.offset.Offset.TheVariants.{End, Start};
@@ -79,7 +80,7 @@ pub fn flat_spans_fit_once_hidden_anchors_go()
 
 /// A rectangle over cells that no other has keeps merged cells inside and apart.
 pub fn a_rectangle_over_free_cells_fits()
-    ensures { (m : SpanMap) (p : Position) (size : Size) (rows columns : ℕ) → IsSpanSize size → p.row + size.height ≤ rows → p.col + size.width ≤ columns → ((a q : Position) (s : Size) → get m a ≡ Some s → In (rectangle a s) q → In (rectangle p size) q → a ≡ p) → Fits m rows columns → Fits (with_size m p size) rows columns }
+    ensures { (m : SpanMap) (p : Position) (size : Size) (rows columns : ℕ) → IsSpan size → p.row + size.height ≤ rows → p.col + size.width ≤ columns → ((a q : Position) (s : Size) → get m a ≡ Some s → In (rectangle a s) q → In (rectangle p size) q → a ≡ p) → Fits m rows columns → Fits (with_size m p size) rows columns }
 {}
 
 /// Rectangles that don't cross a line which is put in fit the table with one line more, and leave that

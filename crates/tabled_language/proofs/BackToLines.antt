@@ -1,5 +1,5 @@
 -- Lines that are written are read as what they say.
-use Rattle.tabled_language.proofs.Common.{[], ◌&&◌, ◌++◌, ◌<◌, ◌^◌, ◌∙◌, ◌∷◌, ◌≡◌, ◌≢◌, ◌≤◌, ◌⊎◌, AllByRecursion, IsSpanSize, IsUtf8, IsUtf8-from_is_utf8, Line, List, NumberRange, Ok, Reading, RecordLine, Rectangle, ShapeLine, SpanLine, and_left, and_right, ap, arith, codes, cond, decimal, eqb, fails, false, gives, inl, inr, length, map, ne_eqb, place, reads_anchor, reads_positive_length, reads_shape, reads_length, refl, says_line, sized, tab_separated, then_reads, whole, ℕ, Size, if_span, reads_span_size, rectangle}
+use Rattle.tabled_language.proofs.Common.{[], ◌&&◌, ◌++◌, ◌<◌, ◌^◌, ◌∙◌, ◌∷◌, ◌≡◌, ◌≢◌, ◌≤◌, ◌⊎◌, AllByRecursion, IsSpan, IsUtf8, IsUtf8-from_is_utf8, Line, List, NumberRange, Ok, Reading, RecordLine, Rectangle, ShapeLine, SpanLine, and_left, and_right, ap, arith, codes, cond, decimal, eqb, fails, false, gives, inl, inr, length, map, ne_eqb, place, reads_anchor, reads_positive_length, reads_shape, reads_length, refl, says_line, sized, tab_separated, then_reads, whole, ℕ, Size, if_span, reads_span_size, rectangle}
 use Rattle.std.specs.Str.{chars, is_utf8}
 use Rattle.tabled_language.proofs.BackToNumbers.{decimal-utf8, length_of-decimal}
 use Rattle.tabled_language.proofs.BackToTexts.{texts_of-joined}
@@ -67,7 +67,7 @@ positive_length_read n texts small some =
     reads-next reads_length (λ (m : ℕ). cond (eqb m 0) (fails NumberRange) (gives m)) (decimal n ∷ texts) texts n (length_read n texts small) ∙ rw more refl
 
 -- a height and a width of more than one cell
-span_size_read : (size : Size) (texts : List (List ℕ)) → size.height < 2 ^ 64 → size.width < 2 ^ 64 → IsSpanSize size → reads_span_size.reads (decimal size.height ∷ decimal size.width ∷ texts) ≡ Ok (size, texts)
+span_size_read : (size : Size) (texts : List (List ℕ)) → size.height < 2 ^ 64 → size.width < 2 ^ 64 → IsSpan size → reads_span_size.reads (decimal size.height ∷ decimal size.width ∷ texts) ≡ Ok (size, texts)
 span_size_read size texts tall wide some =
     reads-next reads_positive_length (λ height. then_reads reads_positive_length (λ width. if_span (sized height width))) (decimal size.height ∷ decimal size.width ∷ texts) (decimal size.width ∷ texts) size.height (positive_length_read size.height (decimal size.width ∷ texts) tall some.height)
     ∙ reads-next reads_positive_length (λ width. if_span (sized size.height width)) (decimal size.width ∷ texts) texts size.width (positive_length_read size.width texts wide some.width)
@@ -80,7 +80,7 @@ behind_column row column = then_reads reads_span_size (λ size. gives (rectangle
 abbrev behind_row : ℕ → Reading Rectangle
 behind_row row = then_reads reads_length (λ column. behind_column row column)
 
-anchor_back : (e : Rectangle) → IsSmall e → IsSpanSize e.size → whole reads_anchor (span_words e) ≡ Ok e
+anchor_back : (e : Rectangle) → IsSmall e → IsSpan e.size → whole reads_anchor (span_words e) ≡ Ok e
 anchor_back e small size =
     let sizes = decimal e.size.height ∷ decimal e.size.width ∷ [] in
     whole-read reads_anchor (span_words e) e
@@ -88,7 +88,7 @@ anchor_back e small size =
     ∙ reads-next reads_length (λ column. behind_column e.first.row column) (decimal e.first.col ∷ sizes) sizes e.first.col (length_read e.first.col sizes small.col)
     ∙ reads-next reads_span_size (λ size. gives (rectangle (place e.first.row e.first.col) size)) sizes [] e.size (span_size_read e.size [] small.height small.width size))
 
-pub span_back : (e : Rectangle) → IsSmall e → IsSpanSize e.size → says_line (tab_separated (codes "span" ∷ span_words e)) ≡ SpanLine (Ok e)
+pub span_back : (e : Rectangle) → IsSmall e → IsSpan e.size → says_line (tab_separated (codes "span" ∷ span_words e)) ≡ SpanLine (Ok e)
 span_back e small size =
     line_of-texts (tab_separated (codes "span" ∷ span_words e)) (codes "span" ∷ span_words e) (omega arith)
     (texts_of-joined (codes "span") (span_words e) span_utf8 (decimal-utf8 e.first.row small.row, (decimal-utf8 e.first.col small.col, (decimal-utf8 e.size.height small.height, (decimal-utf8 e.size.width small.width, tt)))))

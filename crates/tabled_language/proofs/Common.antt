@@ -18,9 +18,9 @@ pub use Rattle.std.specs.Result.{IsErrAnd, IsOk, result_ok}
 pub use Rattle.std.specs.Str.{all_ascii_digits, bytes_eq}
 pub use Rattle.std.specs.Str.Parse.{ParsesUnsigned, digits_value}
 pub use Rattle.std.specs.String.{string_vec}
-pub use Rattle.tabled_grid.proofs.Common.{All-from_recursion, All-permutation, AllByRecursion, AreAnchors, AreSorted, AreWide, Bool, Equal, Err, Fits, Greater, Grid, IsEmptyWithoutRows, IsEven, IsSpanSize, Less, List, MatchOrdering, None, Ok, Option, Ordering, Result, Some, SpanMap, Vec, [], all-append, and_from, and_left, and_parts, and_right, answers_always, ap, append-nil, append_assoc, ap₂, arith, cases_Bool, cases_lt, common_steps, cond, cond-false, cond-true, count_by, drop, drop-drop, drop_all, drop_more, eq_by_cmp, eqb, eqb-true, false, false_from_ne_true, false≢true, flat_map, get_or, get_or_default, grid_of, inl, inr, is_eq, is_lt, length, length-append, length-drop, length-map, lie_well, lies_inside, list_all, list_any, map, map-append, map_grid, map_items, map_of, map_push, max, meets, mul-le-mul_right, nat_cmp, nat_le, none-some, not-true, not_from_false, option_map, or_right, ordering_reverse, pairs, place, position_cmp, range_with_len, ranked, rectangle, rectangles, recursion_from_All, refl, remove, rules, same_Some, sized, subst, suc, sym, take, take-append-drop, take_all, take_more, true, vec_len, width_of, zero, ℕ, ◌*◌, ◌++◌, ◌+◌, ◌-◌, ◌<◌, ◌∙◌, ◌∷◌, ◌≡◌, ◌≢◌, ◌≤◌, ◌⊎◌}
-pub use Rattle.tabled_grid.proofs.PassedAnchors.{meets-turned}
-pub use Rattle.tabled_grid.proofs.PassedAnchors.{Meets, meets-from, meets-true}
+pub use Rattle.tabled_grid.proofs.Common.{All-from_recursion, All-permutation, AllByRecursion, AreAnchors, AreSorted, AreWide, Bool, Equal, Err, Fits, Greater, Grid, IsEmptyWithoutRows, IsEven, IsSpan, Less, List, MatchOrdering, None, Ok, Option, Ordering, Result, Some, SpanMap, Vec, [], all-append, and_from, and_left, and_parts, and_right, answers_always, ap, append-nil, append_assoc, ap₂, arith, cases_Bool, cases_lt, common_steps, cond, cond-false, cond-true, count_by, drop, drop-drop, drop_all, drop_more, eq_by_cmp, eqb, eqb-true, false, false_from_ne_true, false≢true, flat_map, get_or, get_or_default, grid_of, inl, inr, is_eq, is_lt, length, length-append, length-drop, length-map, all_fit, lies_inside, list_all, list_any, map, map-append, map_grid, map_items, map_of, map_push, max, meets, mul-le-mul_right, nat_cmp, nat_le, none-some, not-true, not_from_false, option_map, or_right, ordering_reverse, pairs, place, position_cmp, range_with_len, ranked, rectangle, rectangles, recursion_from_All, refl, remove, rules, same_Some, sized, subst, suc, sym, take, take-append-drop, take_all, take_more, true, vec_len, width_of, zero, ℕ, ◌*◌, ◌++◌, ◌+◌, ◌-◌, ◌<◌, ◌∙◌, ◌∷◌, ◌≡◌, ◌≢◌, ◌≤◌, ◌⊎◌}
+pub use Rattle.tabled_grid.proofs.Rectangles.{meets-from, meets-true, meets-turned}
+pub use Rattle.tabled_grid.specs.Rectangles.{Meets}
 pub use Rattle.tabled_grid.proofs.SortedEntries.{both, find_at, get-from_rectangles, get-map_of, get-rectangles, halves, is_less, listed-spans, map_of-rectangles, positions_exact, positions_total, rectangles-map_of, rectangles_anchors, rectangles_sorted, same_map, span_at}
 pub use Rattle.tabled_grid.specs.Spans.{empty, from_rectangles}
 pub use Rattle.tabled_grid.specs.declared.config.position.Position.{Position}
@@ -33,7 +33,7 @@ pub use Rattle.tabled_language.specs.Lent.{bytes_of, texts_in_row}
 pub use Rattle.tabled_language.specs.Line.{anchor_in, has_byte, is_plain, lines_of, meaning_of, record_in, says_line, shape_in, step_in, table_from, texts_of, words_of}
 pub use Rattle.tabled_language.specs.Output.{IsOwnWord, escaped, escaped_byte, line, print, span_line, tab_separated}
 pub use Rattle.tabled_language.specs.Parsing.{DraftMeans, EndsDraft, EndsEarly, EndsScript, LineEnds, Reads, ReadsLine, ReadsScript, draft_in, in_line}
-pub use Rattle.tabled_language.specs.Placed.{AreSpans, EndsMerge, IsFirstMisfit, has_place}
+pub use Rattle.tabled_language.specs.Placed.{AreSpans, EndsMerge, IsFirstMisfit}
 pub use Rattle.tabled_language.specs.Script.{Script, parse, script_of, script_or_fault, start}
 pub use Rattle.tabled_language.specs.Selectors.{reads_cells, reads_selector, selectors}
 pub use Rattle.tabled_language.specs.Sizes.{if_span, reads_anchor, reads_shape, reads_span_size}
@@ -56,3 +56,4 @@ pub use Rattle.tabled_table.proofs.Common.{◌&&◌, ◌||◌, ChangedBy, Global
 pub use Rattle.tabled_table.proofs.RowTexts.{wide-map}
 pub use Rattle.tabled_table.proofs.Tables.{even-width}
 pub use Rattle.tabled_table.proofs.Uneven.{even-longest, longest-push}
+pub use Rattle.tabled_grid.specs.Fitting.{fits_among}

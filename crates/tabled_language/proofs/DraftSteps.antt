@@ -1,5 +1,5 @@
 -- A draft line by line, and what it says at the end.
-use Rattle.tabled_language.proofs.Common.{Draft, Err, Fault, IsFirstMisfit, Line, List, None, Ok, Option, Rectangle, Shape, Some, SpanMisfits, State, [], anchor_in, anchor_line, anchor_lines, ap, append-nil, append_assoc, arith, draft_of, fault_of, filter_map-append, first_fault, get_or, length, lie_well, option_map, option_or, record_in, refl, script_or_fault, shape_among, shape_at, shape_in, shape_misfit, from_rectangles, step_in, sym, table_from, true, with_line, ℕ, ◌++◌, ◌+◌, ◌∙◌, ◌∷◌, ◌≡◌}
+use Rattle.tabled_language.proofs.Common.{Draft, Err, Fault, IsFirstMisfit, Line, List, None, Ok, Option, Rectangle, Shape, Some, SpanMisfits, State, [], anchor_in, anchor_line, anchor_lines, ap, append-nil, append_assoc, arith, draft_of, fault_of, filter_map-append, first_fault, get_or, length, all_fit, option_map, option_or, record_in, refl, script_or_fault, shape_among, shape_at, shape_in, shape_misfit, from_rectangles, step_in, sym, table_from, true, with_line, ℕ, ◌++◌, ◌+◌, ◌∙◌, ◌∷◌, ◌≡◌}
 use Rattle.tabled_language.proofs.DraftLines.{shape_told}
 use Rattle.tabled_language.proofs.Misfits.{first_misfit_line, no_misfit}
 
@@ -46,5 +46,5 @@ module _ (lines : List Line) (fine : first_fault fault_of [] lines ≡ None) whe
   pub span_misfits : (i : ℕ) → shape_misfit (table_from (draft_of lines).records) (draft_of lines).shape ≡ None → IsFirstMisfit (table_from (draft_of lines).records).rows (table_from (draft_of lines).records).columns (draft_of lines).anchors i → script_or_fault lines ≡ Err (get_or (draft_of lines).lines i 0, SpanMisfits)
   span_misfits i is misfit = rw (fine, shape_told (table_from (draft_of lines).records) lines fine ∙ is, first_misfit_line (table_from (draft_of lines).records) lines i misfit) refl
 
-  pub all_fits : shape_misfit (table_from (draft_of lines).records) (draft_of lines).shape ≡ None → lie_well (table_from (draft_of lines).records).rows (table_from (draft_of lines).records).columns (draft_of lines).anchors ≡ true → script_or_fault lines ≡ Ok (record { records = (draft_of lines).records; spans = from_rectangles (draft_of lines).anchors; steps = (draft_of lines).steps })
+  pub all_fits : shape_misfit (table_from (draft_of lines).records) (draft_of lines).shape ≡ None → all_fit (table_from (draft_of lines).records).rows (table_from (draft_of lines).records).columns (draft_of lines).anchors ≡ true → script_or_fault lines ≡ Ok (record { records = (draft_of lines).records; spans = from_rectangles (draft_of lines).anchors; steps = (draft_of lines).steps })
   all_fits is fit = rw (fine, shape_told (table_from (draft_of lines).records) lines fine ∙ is, no_misfit (table_from (draft_of lines).records) lines fit) refl

@@ -1,7 +1,7 @@
 -- The first faulty span among lines is the first misfit among their anchors.
-use Rattle.tabled_language.proofs.Common.{[], ◌&&◌, ◌++◌, ◌+◌, ◌<◌, ◌∙◌, ◌∷◌, ◌≡◌, Bool, Grid, IsFirstMisfit, Line, List, None, Option, Rectangle, Some, SpanMisfits, anchor_in, anchor_lines, and_parts, ap, append-nil, append_assoc, arith, false, filter_map, filter_map-append, first_fault, get_or, has_place, length, length-append, lie_well, refl, span_fault, subst, suc, sym, take, true, zero, ℕ}
+use Rattle.tabled_language.proofs.Common.{[], ◌&&◌, ◌++◌, ◌+◌, ◌<◌, ◌∙◌, ◌∷◌, ◌≡◌, Bool, Grid, IsFirstMisfit, Line, List, None, Option, Rectangle, Some, SpanMisfits, anchor_in, anchor_lines, and_parts, ap, append-nil, append_assoc, arith, false, filter_map, filter_map-append, first_fault, get_or, fits_among, length, length-append, all_fit, refl, span_fault, subst, suc, sym, take, true, zero, ℕ}
 use Rattle.std.proofs.Math.Numerals.{add-one}
-use Rattle.tabled_language.proofs.PlacedAnchors.{well-left, well-push}
+use Rattle.tabled_language.proofs.PlacedAnchors.{fit-left, fit-push}
 
 -- the anchors that lines say
 abbrev anchors : List Line → List Rectangle
@@ -9,17 +9,17 @@ anchors lines = filter_map anchor_in lines
 
 module _ (g : Grid (List ℕ)) where
   abbrev well : List Rectangle → Bool
-  well es = lie_well g.rows g.columns es
+  well es = all_fit g.rows g.columns es
 
-  -- one in front of others that lie well with those before it has a place
-  place_there : (done es : List Rectangle) (e : Rectangle) → well (done ++ e ∷ es) ≡ true → has_place g.rows g.columns done e ≡ true
+  -- one in front of others that fit with those before it fits among these
+  place_there : (done es : List Rectangle) (e : Rectangle) → well (done ++ e ∷ es) ≡ true → fits_among g.rows g.columns done e ≡ true
   place_there done es e h =
-      let front = well-left g.rows g.columns (done ++ e ∷ []) es (ap well (append_assoc done (e ∷ []) es) ∙ h) in
-      (and_parts _ _ (sym (well-push g.rows g.columns done e) ∙ front)).1
+      let front = fit-left g.rows g.columns (done ++ e ∷ []) es (ap well (append_assoc done (e ∷ []) es) ∙ h) in
+      (and_parts _ _ (sym (fit-push g.rows g.columns done e) ∙ front)).1
 
-  -- the next of rectangles that lie well has none, where they do not with it
-  no_place : (done : List Rectangle) (e : Rectangle) → well done ≡ true → well (done ++ e ∷ []) ≡ false → has_place g.rows g.columns done e ≡ false
-  no_place done e fine not_well = ap (λ b. b && has_place g.rows g.columns done e) (sym fine) ∙ sym (well-push g.rows g.columns done e) ∙ not_well
+  -- the next of rectangles that fit does not, where they do not with it
+  no_place : (done : List Rectangle) (e : Rectangle) → well done ≡ true → well (done ++ e ∷ []) ≡ false → fits_among g.rows g.columns done e ≡ false
+  no_place done e fine not_well = ap (λ b. b && fits_among g.rows g.columns done e) (sym fine) ∙ sym (fit-push g.rows g.columns done e) ∙ not_well
 
   module _ (earlier : List Line) (line : Line) (lines : List Line) where
     -- a line that says no anchor
@@ -27,14 +27,14 @@ module _ (g : Grid (List ℕ)) where
     passed is = rw is refl
 
     -- one whose rectangle has a place
-    fits : (e : Rectangle) → anchor_in line ≡ Some e → has_place g.rows g.columns (anchors earlier) e ≡ true → first_fault (span_fault g) earlier (line ∷ lines) ≡ first_fault (span_fault g) (earlier ++ line ∷ []) lines
+    fits : (e : Rectangle) → anchor_in line ≡ Some e → fits_among g.rows g.columns (anchors earlier) e ≡ true → first_fault (span_fault g) earlier (line ∷ lines) ≡ first_fault (span_fault g) (earlier ++ line ∷ []) lines
     fits e is fine = rw (is, fine) refl
 
     -- one whose rectangle has none
-    misfits : (e : Rectangle) → anchor_in line ≡ Some e → has_place g.rows g.columns (anchors earlier) e ≡ false → first_fault (span_fault g) earlier (line ∷ lines) ≡ Some (length earlier + 1, SpanMisfits)
+    misfits : (e : Rectangle) → anchor_in line ≡ Some e → fits_among g.rows g.columns (anchors earlier) e ≡ false → first_fault (span_fault g) earlier (line ∷ lines) ≡ Some (length earlier + 1, SpanMisfits)
     misfits e is none = rw (is, none) refl
 
-  -- no span is faulty where all lie well
+  -- no span is faulty where all fit
   fine_behind : (earlier lines : List Line) → well (anchors (earlier ++ lines)) ≡ true → first_fault (span_fault g) earlier lines ≡ None
   fine_behind earlier [] h = refl
   fine_behind earlier (line ∷ lines) h = by_anchor (anchor_in line) refl (fine_behind (earlier ++ line ∷ []) lines (ap (λ (all : List Line). well (anchors all)) (append_assoc earlier (line ∷ []) lines) ∙ h))
@@ -49,7 +49,7 @@ module _ (g : Grid (List ℕ)) where
   pub no_misfit : (lines : List Line) → well (anchors lines) ≡ true → first_fault (span_fault g) [] lines ≡ None
   no_misfit lines h = fine_behind [] lines h
 
-  -- after these rectangles, i more lie well, and one more does not
+  -- after these rectangles, i more fit, and one more does not
   record Misfit (done es : List Rectangle) (i : ℕ) : Type 0 where
     within : i < length es
     before : well (done ++ take i es) ≡ true

@@ -1,7 +1,7 @@
 -- What is written of a table is read as that table.
-use Rattle.tabled_language.proofs.Common.{[], ◌++◌, ◌<◌, ◌^◌, ◌∙◌, ◌∷◌, ◌≡◌, AllByRecursion, Grid, IsUtf8, Line, List, None, Ok, RecordLine, Rectangle, Script, SpanMap, State, ap, append-nil, append_assoc, ap₂, arith, codes, fault_among, filter_map, first_fault, flat_map, lie_well, line, lines_of, map, parse, print, record_in, refl, says_line, script_of, script_or_fault, shape_fault, span_fault, span_line, sym, tab_separated, table_from, true, ℕ, rectangles, from_rectangles}
+use Rattle.tabled_language.proofs.Common.{[], ◌++◌, ◌<◌, ◌^◌, ◌∙◌, ◌∷◌, ◌≡◌, AllByRecursion, Grid, IsUtf8, Line, List, None, Ok, RecordLine, Rectangle, Script, SpanMap, State, ap, append-nil, append_assoc, ap₂, arith, codes, fault_among, filter_map, first_fault, flat_map, all_fit, line, lines_of, map, parse, print, record_in, refl, says_line, script_of, script_or_fault, shape_fault, span_fault, span_line, sym, tab_separated, table_from, true, ℕ, rectangles, from_rectangles}
 use Rattle.tabled_language.specs.RoundTrip.{IsTable, ReadsBack}
-use Rattle.tabled_language.proofs.BackToAnchors.{IsSpanIn, rectangles_well, spans_in, from_rectangles-rectangles}
+use Rattle.tabled_language.proofs.BackToAnchors.{IsSpanIn, rectangles_fit, spans_in, from_rectangles-rectangles}
 use Rattle.tabled_language.proofs.BackToLines.{IsSmall, all_back, row_back, shape_back, shape_words, span_back, span_words}
 use Rattle.tabled_language.proofs.BackToRecords.{table_from-even}
 use Rattle.tabled_language.proofs.BackToTexts.{lines_of-line, lines_of-lines}
@@ -39,11 +39,11 @@ says-print s h =
     ∙ ap₂ (λ (first : Line) (others : List Line). first ∷ others) (shape_back s.texts.rows s.texts.columns r c)
     (rows ∙ ap (λ lines. map RecordLine s.texts.cells ++ lines) spans)
 
-no_fault : (g : Grid (List ℕ)) (es : List Rectangle) → table_from g.cells ≡ g → lie_well g.rows g.columns es ≡ true → fault_among (table g.rows g.columns g.cells es) ≡ None
+no_fault : (g : Grid (List ℕ)) (es : List Rectangle) → table_from g.cells ≡ g → all_fit g.rows g.columns es ≡ true → fault_among (table g.rows g.columns g.cells es) ≡ None
 no_fault g es even well =
     let is : table_from (filter_map record_in (table g.rows g.columns g.cells es)) ≡ g = ap table_from (records_are g.rows g.columns g.cells es) ∙ even in
     let shape : first_fault (shape_fault (table_from (filter_map record_in (table g.rows g.columns g.cells es)))) [] (table g.rows g.columns g.cells es) ≡ None = ap (λ h. first_fault (shape_fault h) [] (table g.rows g.columns g.cells es)) is ∙ shape_fine g g.cells es in
-    let spans : first_fault (span_fault (table_from (filter_map record_in (table g.rows g.columns g.cells es)))) [] (table g.rows g.columns g.cells es) ≡ None = ap (λ h. first_fault (span_fault h) [] (table g.rows g.columns g.cells es)) is ∙ no_misfit g (table g.rows g.columns g.cells es) (ap (lie_well g.rows g.columns) (anchors_are g.rows g.columns g.cells es) ∙ well) in
+    let spans : first_fault (span_fault (table_from (filter_map record_in (table g.rows g.columns g.cells es)))) [] (table g.rows g.columns g.cells es) ≡ None = ap (λ h. first_fault (span_fault h) [] (table g.rows g.columns g.cells es)) is ∙ no_misfit g (table g.rows g.columns g.cells es) (ap (all_fit g.rows g.columns) (anchors_are g.rows g.columns g.cells es) ∙ well) in
     rw (in_place g.rows g.columns g.cells es, shape, spans) refl
 
 abbrev scripted : List (List (List ℕ)) → SpanMap → List (State → State) → Script
@@ -58,7 +58,7 @@ script_is g m = same (records_are g.rows g.columns g.cells (rectangles m)) (ap f
 -- what is printed is read as a script of the same rows and merged cells
 pub parse-print : (s : State) → IsTable s → parse (print s) ≡ Ok (record { records = s.texts.cells; spans = s.spans; steps = [] })
 parse-print s h =
-    let well = rectangles_well s.spans s.texts.rows s.texts.columns h.fits in
+    let well = rectangles_fit s.spans s.texts.rows s.texts.columns h.fits in
     ap script_or_fault (says-print s h)
     ∙ rw (no_fault s.texts (rectangles s.spans) (table_from-even s.texts h.even h.empty) well) (ap Ok (script_is s.texts s.spans))
 

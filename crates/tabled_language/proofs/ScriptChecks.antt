@@ -1,5 +1,5 @@
 -- The checks of a whole draft.
-use Rattle.tabled_language.proofs.Common.{[], ◌++◌, ◌+◌, ◌<◌, ◌∙◌, ◌∷◌, ◌≡◌, Draft, DraftMeans, EndsDraft, EndsMerge, EndsScript, Err, Fault, Grid, IfOk, IsFirstMisfit, Line, List, None, Ok, Option, ParseError, ReadsScript, Result, Script, Shape, ShapeDiffers, Some, SpanMap, SpanMisfits, Vec, ap, ap₂, draft_of, fault_of, first_fault, lie_well, from_rectangles, get_or, length, length-map, lines_of, longest, longest-push, map, map-append, map_items, max, option_map, parse, refl, says_line, script_or_fault, shape_misfit, subst, sym, table_from, take, take_more, true, ℕ}
+use Rattle.tabled_language.proofs.Common.{[], ◌++◌, ◌+◌, ◌<◌, ◌∙◌, ◌∷◌, ◌≡◌, Draft, DraftMeans, EndsDraft, EndsMerge, EndsScript, Err, Fault, Grid, IfOk, IsFirstMisfit, Line, List, None, Ok, Option, ParseError, ReadsScript, Result, Script, Shape, ShapeDiffers, Some, SpanMap, SpanMisfits, Vec, ap, ap₂, draft_of, fault_of, first_fault, all_fit, from_rectangles, get_or, length, length-map, lines_of, longest, longest-push, map, map-append, map_items, max, option_map, parse, refl, says_line, script_or_fault, shape_misfit, subst, sym, table_from, take, take_more, true, ℕ}
 use Rattle.std.specs.Prelude.{IfErr, MatchResult}
 use Rattle.tabled_language.specs.Parsing.{IsScript, script_in}
 use Rattle.tabled_language.specs.declared.fault.ParseError.TheVariants as parse_error
@@ -45,10 +45,10 @@ module _ (lines : List Line) (fine : first_fault fault_of [] lines ≡ None) (d 
       (subst (λ (f : Draft). IsFirstMisfit (table_from f.records).rows (table_from f.records).columns f.anchors i) is (subst (λ r. IsFirstMisfit r (table_from d.records).columns d.anchors i) shape.tall (subst (λ c. IsFirstMisfit rows c d.anchors i) shape.wide misfit)))
       ∙ ap (λ m. Err (m, SpanMisfits)) (sym (number ∙ ap (λ (f : Draft). get_or f.lines i 0) is))
 
-  pub checked_all : (m : SpanMap) → said ≡ None → lie_well rows columns d.anchors ≡ true → m ≡ from_rectangles d.anchors → script_or_fault lines ≡ Ok (record { records = d.records; spans = m; steps = d.steps })
+  pub checked_all : (m : SpanMap) → said ≡ None → all_fit rows columns d.anchors ≡ true → m ≡ from_rectangles d.anchors → script_or_fault lines ≡ Ok (record { records = d.records; spans = m; steps = d.steps })
   checked_all m e fit made =
       all_fits lines fine (sym whole ∙ ap (option_map (λ n. (n, ShapeDiffers))) e)
-      (subst (λ (f : Draft). lie_well (table_from f.records).rows (table_from f.records).columns f.anchors ≡ true) is (subst (λ r. lie_well r (table_from d.records).columns d.anchors ≡ true) shape.tall (subst (λ c. lie_well rows c d.anchors ≡ true) shape.wide fit)))
+      (subst (λ (f : Draft). all_fit (table_from f.records).rows (table_from f.records).columns f.anchors ≡ true) is (subst (λ r. all_fit r (table_from d.records).columns d.anchors ≡ true) shape.tall (subst (λ c. all_fit rows c d.anchors ≡ true) shape.wide fit)))
       ∙ sym (ap (λ (k : SpanMap). Ok (scripted d k)) made ∙ ap (λ (f : Draft). Ok (scripted f (from_rectangles f.anchors))) is)
     where
       scripted : Draft → SpanMap → Script

@@ -1,8 +1,9 @@
 -- A walk over rectangles row by row.
-use Rattle.tabled_language.proofs.Common.{[], ◌++◌, ◌+◌, ◌<◌, ◌∙◌, ◌∷◌, ◌≡◌, ◌≤◌, ◌⊎◌, AreBeside, AreKeyed, BTreeMap, Bool, EndsAbove, IsBeside, IsClear, DropsEnded, IsMet, List, Meets, Rectangle, RowsRise, and_from, and_right, ap, arith, cond, drop, false, false_from_ne_true, get, get_or, get_or_default, has_place, inl, inr, is_eq, length, lie_well, lies_inside, meets, meets-from, meets-true, nat_cmp, nat_tests, not_from_false, refl, same_Some, subst, sym, take, take-append-drop, take_more, true, true≢false, ℕ}
+use Rattle.tabled_language.proofs.Common.{[], ◌++◌, ◌+◌, ◌<◌, ◌∙◌, ◌∷◌, ◌≡◌, ◌≤◌, ◌⊎◌, AreBeside, AreKeyed, BTreeMap, Bool, EndsAbove, IsBeside, IsClear, DropsEnded, IsMet, List, Meets, Rectangle, RowsRise, and_from, and_right, ap, arith, cond, drop, false, false_from_ne_true, get, get_or, get_or_default, fits_among, inl, inr, is_eq, length, all_fit, lies_inside, meets, meets-from, meets-true, nat_cmp, nat_tests, not_from_false, refl, same_Some, subst, sym, take, take-append-drop, take_more, true, true≢false, ℕ}
 use Rattle.std.specs.Prelude.{Some, not}
-use Rattle.tabled_grid.proofs.Members.{Member, any-from, any-member, member-either, member-left, member-right}
-use Rattle.tabled_language.proofs.PlacedAnchors.{well-left, well-push}
+use Rattle.tabled_grid.proofs.Members.{Member, all-from, all-member, member-either, member-left, member-right}
+use Rattle.tabled_language.proofs.PlacedAnchors.{fit-left, fit-push}
+use Rattle.tabled_grid.proofs.FittingAnchors.{unmet}
 
 -- of the rectangles gone through those are noted that may reach a row or a later one
 pub record IsWalked (done : List Rectangle) (m : BTreeMap ℕ Rectangle) (row : ℕ) : Type 0 where
@@ -35,21 +36,18 @@ apart_from e f h = false_from_ne_true _ (λ t. not_met (meets-true e f t) h)
     not_met m (inr (inr right)) = omega (arith, m.right, right)
 
 -- then the anchor has a place
-pub clear_place : (rows columns : ℕ) (done : List Rectangle) (m : BTreeMap ℕ Rectangle) (e : Rectangle) → IsWalked done m e.first.row → IsClear m e → lies_inside rows columns e ≡ true → has_place rows columns done e ≡ true
-clear_place rows columns done m e h clear inside = and_from _ _ inside (not_from_false _ (false_from_ne_true _ (λ t. never (any-member (meets e) done t))))
+pub clear_place : (rows columns : ℕ) (done : List Rectangle) (m : BTreeMap ℕ Rectangle) (e : Rectangle) → IsWalked done m e.first.row → IsClear m e → lies_inside rows columns e ≡ true → fits_among rows columns done e ≡ true
+clear_place rows columns done m e h clear inside = and_from _ _ inside (all-from (λ (f : Rectangle). not (meets e f)) done (λ f member. not_from_false _ (apart_from e f (above_or_beside f (h.noted f member)))))
   where
     above_or_beside : (f : Rectangle) → EndsAbove e.first.row f ⊎ (get nat_cmp m f.first.col ≡ Some f) → EndsAbove e.first.row f ⊎ IsBeside e f
     above_or_beside f (inl above) = inl above
     above_or_beside f (inr is) = clear f.first.col f is
 
-    never : (f : Rectangle) × Member f done × (meets e f ≡ true) → ⊥
-    never (f, member, met) = true≢false (sym met ∙ apart_from e f (above_or_beside f (h.noted f member)))
-
 -- or it has none
-pub met_place : (rows columns : ℕ) (done : List Rectangle) (m : BTreeMap ℕ Rectangle) (e : Rectangle) → IsWalked done m e.first.row → 1 ≤ e.size.height → IsMet m e → has_place rows columns done e ≡ false
+pub met_place : (rows columns : ℕ) (done : List Rectangle) (m : BTreeMap ℕ Rectangle) (e : Rectangle) → IsWalked done m e.first.row → 1 ≤ e.size.height → IsMet m e → fits_among rows columns done e ≡ false
 met_place rows columns done m e h high (q, f, is, reach, right, left) =
     let met : meets e f ≡ true = meets-from e f (record { above = reach; below = omega (arith, (h.begun q f is).0, high); left = left; right = right }) in
-    and_right _ _ (ap not (any-from (meets e) f done (h.among q f is) met))
+    and_right _ _ (false_from_ne_true _ (λ apart. unmet e f (all-member (λ (g : Rectangle). not (meets e g)) f done apart (h.among q f is)) met))
 
 -- the map of those that may reach a row, with the anchor put in
 module _ (done : List Rectangle) (m cleared new : BTreeMap ℕ Rectangle) (e : Rectangle) (h : IsWalked done m e.first.row) (wide : 1 ≤ e.size.width) (clear : IsClear m e) (drops : DropsEnded e.first.row m cleared) (put : (q : ℕ) → get nat_cmp new q ≡ cond (is_eq (nat_cmp e.first.col q)) (Some e) (get nat_cmp cleared q)) where
@@ -133,14 +131,14 @@ pub record HasWalked (rows columns : ℕ) (es : List Rectangle) (k : ℕ) (m : B
   pub row : ℕ
   pub walked : IsWalked (take k es) m row
   pub below : (d : Rectangle) → k < length es → row ≤ (get_or es k d).first.row
-  pub well : lie_well rows columns (take k es) ≡ true
+  pub well : all_fit rows columns (take k es) ≡ true
 
 -- an anchor that has no place after those gone through
-pub has_walked-stop : (rows columns : ℕ) (es : List Rectangle) (k : ℕ) (e : Rectangle) → k < length es → e ≡ get_or es k e → has_place rows columns (take k es) e ≡ false → lie_well rows columns es ≡ false
+pub has_walked-stop : (rows columns : ℕ) (es : List Rectangle) (k : ℕ) (e : Rectangle) → k < length es → e ≡ get_or es k e → fits_among rows columns (take k es) e ≡ false → all_fit rows columns es ≡ false
 has_walked-stop rows columns es k e within is none =
     let more : take (k + 1) es ≡ take k es ++ e ∷ [] = take_more es k e within ∙ ap (λ (a : Rectangle). take k es ++ a ∷ []) (sym is) in
-    let stop : lie_well rows columns (take (k + 1) es) ≡ false = ap (lie_well rows columns) more ∙ well-push rows columns (take k es) e ∙ and_right _ _ none in
-    false_from_ne_true _ (λ well. true≢false (sym (well-left rows columns (take (k + 1) es) (drop (k + 1) es) (ap (lie_well rows columns) (take-append-drop (k + 1) es) ∙ well)) ∙ stop))
+    let stop : all_fit rows columns (take (k + 1) es) ≡ false = ap (all_fit rows columns) more ∙ fit-push rows columns (take k es) e ∙ and_right _ _ none in
+    false_from_ne_true _ (λ well. true≢false (sym (fit-left rows columns (take (k + 1) es) (drop (k + 1) es) (ap (all_fit rows columns) (take-append-drop (k + 1) es) ∙ well)) ∙ stop))
 
 -- at the row of the next anchor
 pub walked-here : (rows columns : ℕ) (es : List Rectangle) (k : ℕ) (m : BTreeMap ℕ Rectangle) (e : Rectangle) → HasWalked rows columns es k m → k < length es → e ≡ get_or es k e → IsWalked (take k es) m e.first.row
@@ -155,7 +153,7 @@ has_walked-more rows columns es k m cleared new e h up within is wide inside cle
       row = e.first.row;
       walked = subst (λ (fs : List Rectangle). IsWalked fs new e.first.row) (sym more) (walked-more (take k es) m cleared new e at wide clear drops put);
       below = λ d next. row_before d next (up k d next);
-      well = ap (lie_well rows columns) more ∙ well-push rows columns (take k es) e ∙ and_from _ _ h.well (clear_place rows columns (take k es) m e at clear inside);
+      well = ap (all_fit rows columns) more ∙ fit-push rows columns (take k es) e ∙ and_from _ _ h.well (clear_place rows columns (take k es) m e at clear inside);
     }
   where
     row_before : (d : Rectangle) → k + 1 < length es → (get_or es k d).first.row ≤ (get_or es (k + 1) d).first.row → e.first.row ≤ (get_or es (k + 1) d).first.row

@@ -5,9 +5,9 @@ use Rattle.std.specs.Option.{option_map, option_or}
 use Rattle.tabled_grid.specs.Grid.{Grid}
 use Rattle.tabled_language.specs.declared.fault.Fault.{Fault}
 use Rattle.tabled_language.specs.declared.fault.Fault.TheVariants.{Escape, NumberRange, OutOfPlace, SelectorDepth, ShapeDiffers, SpanMisfits, UnknownWord, WordCount}
-use Rattle.tabled_language.specs.Placed.{has_place}
 use Rattle.tabled_language.specs.Verb.{Line, EmptyLine, ShapeLine, RecordLine, SpanLine, StepLine, FaultyLine}
 use Rattle.tabled_language.specs.Line.{anchor_in, record_in, shape_in, table_from}
+use Rattle.tabled_grid.specs.Fitting.{fits_among}
 
 -- a line may stand after an earlier one: the shape comes first, then records, then spans, then steps
 abbrev pub may_follow : Line → Line → Bool
@@ -56,7 +56,7 @@ shape_fault g earlier line = unless_it (λ shape. (shape.0 == g.rows) && (shape.
 
 -- what is wrong with an anchor in a table, after earlier lines
 abbrev pub span_fault : Grid (List ℕ) → List Line → Line → Option Fault
-span_fault g earlier line = unless_it (has_place g.rows g.columns (filter_map anchor_in earlier)) SpanMisfits (anchor_in line)
+span_fault g earlier line = unless_it (fits_among g.rows g.columns (filter_map anchor_in earlier)) SpanMisfits (anchor_in line)
 
 -- the first fault of lines: the first of a line by itself, or else a shape beside the table of the records, or else the first of a span in that table
 abbrev pub fault_among : List Line → Option (ℕ × Fault)

@@ -1,26 +1,22 @@
--- Rectangles that come one after another, each with a place of its own.
+-- Rectangles that come one after another, of which each has to fit among those before it.
 use Rattle.std.specs.Prelude.{◌≡◌, ◌+◌, ◌<◌, ◌≤◌, ℕ, ◌&&◌, Bool, true, false, length, get_or, take, List, not}
-use Rattle.std.specs.List.{AllByRecursion, list_any}
-use Rattle.tabled_grid.specs.Anchors.{lie_well, lies_inside, meets}
-use Rattle.tabled_grid.specs.Spans.{IsSpanSize, SpanMap, from_rectangles}
+use Rattle.std.specs.List.{AllByRecursion}
+use Rattle.tabled_grid.specs.Spans.{IsSpan, SpanMap, from_rectangles}
 use Rattle.tabled_grid.specs.declared.config.rectangle.Rectangle.{Rectangle}
 use Rattle.tabled_language.specs.declared.fault.Fault.TheVariants.{SpanMisfits}
 use Rattle.tabled_language.specs.declared.fault.ParseError.{ParseError}
 use Rattle.tabled_language.specs.declared.fault.ParseError.TheVariants.{Faulty, OutOfMemory}
-
--- a rectangle lies inside a table, and shares no cell with others
-abbrev pub has_place : ℕ → ℕ → List Rectangle → Rectangle → Bool
-has_place rows columns others e = lies_inside rows columns e && not (list_any (meets e) others)
+use Rattle.tabled_grid.specs.Fitting.{all_fit}
 
 -- rectangles of more than one cell each
 abbrev pub AreSpans : List Rectangle → Type 0
-AreSpans es = AllByRecursion (λ (e : Rectangle). IsSpanSize e.size) es
+AreSpans es = AllByRecursion (λ (e : Rectangle). IsSpan e.size) es
 
--- the rectangles before an index lie well, and with the one there they do not
+-- the rectangles before an index fit, and with the one there they do not
 pub record IsFirstMisfit (rows columns : ℕ) (es : List Rectangle) (i : ℕ) : Type 0 where
   pub within : i < length es
-  pub before : lie_well rows columns (take i es) ≡ true
-  pub there : lie_well rows columns (take (i + 1) es) ≡ false
+  pub before : all_fit rows columns (take i es) ≡ true
+  pub there : all_fit rows columns (take (i + 1) es) ≡ false
 
 -- rectangles in the order of their lines, and the numbers of these lines
 pub record NumberedAnchors : Type 0 where
@@ -31,11 +27,11 @@ pub record NumberedAnchors : Type 0 where
 abbrev pub AreSpanLines : NumberedAnchors → Type 0
 AreSpanLines es = record { sizes : AreSpans es.anchors; numbered : length es.anchors ≤ length es.numbers }
 
--- all rectangles lie well, and these are their merged cells
+-- all rectangles fit, and these are their merged cells
 abbrev pub IsMerged : ℕ → ℕ → NumberedAnchors → SpanMap → Type 0
-IsMerged rows columns es spans = (lie_well rows columns es.anchors ≡ true) × (spans ≡ from_rectangles es.anchors)
+IsMerged rows columns es spans = (all_fit rows columns es.anchors ≡ true) × (spans ≡ from_rectangles es.anchors)
 
--- why rectangles aren't merged: the first that has no place, with the number of its line; or memory, where there are some
+-- why rectangles aren't merged: the first that does not fit among those before it, with the number of its line; or memory, where there are some
 abbrev pub EndsMerge : ℕ → ℕ → NumberedAnchors → ParseError → Type 0
 EndsMerge rows columns es (Faulty line fault) = (fault ≡ SpanMisfits) × (i : ℕ) × IsFirstMisfit rows columns es.anchors i × (line ≡ get_or es.numbers i 0)
 EndsMerge rows columns es OutOfMemory = 0 < length es.anchors

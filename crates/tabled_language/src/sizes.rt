@@ -6,7 +6,7 @@ use tabled_grid::config::{Position, Rectangle, Size};
 
 impl<'a> Words<'a> {
     ghost use Rattle.std.specs.Prelude.{IfOk};
-    ghost use Rattle.tabled_grid.specs.Spans.{IsSpanSize};
+    ghost use Rattle.tabled_grid.specs.Spans.{IsSpan};
     ghost use Rattle.tabled_language.specs.Parsing.{Reads};
     ghost use Rattle.tabled_language.specs.Sizes.{reads_anchor, reads_shape, reads_span_size};
 
@@ -22,7 +22,7 @@ impl<'a> Words<'a> {
     /// A row and a column, and then a height and a width.
     pub(crate) fn anchor(&mut self) -> Read<Rectangle>
         ensures read { Reads (λ anchor. anchor) reads_anchor self.old result self.new }
-        ensures size { IfOk result (λ anchor. IsSpanSize anchor.size) }
+        ensures size { IfOk result (λ anchor. IsSpan anchor.size) }
     {
         let row = self.length()?;
         let column = self.length()?;
@@ -34,7 +34,7 @@ impl<'a> Words<'a> {
     /// A height and a width of more than one cell.
     fn span_size(&mut self) -> Read<Size>
         ensures read { Reads (λ size. size) reads_span_size self.old result self.new }
-        ensures size { IfOk result IsSpanSize }
+        ensures size { IfOk result IsSpan }
     {
         let height = self.positive_length()?;
         let width = self.positive_length()?;

@@ -1,7 +1,6 @@
 //! What `span` lines say, and the merged cells that their anchors make.
 
 ghost use Rattle.std.specs.Prelude.{false, true, ◌≡◌, IfOk};
-ghost use Rattle.tabled_grid.specs.Anchors.{lie_well};
 ghost use Rattle.tabled_grid.specs.Spans.{AreAnchors, from_rectangles, map_of};
 ghost use Rattle.tabled_language.specs.Placed.{AreSpans, IsFirstMisfit};
 
@@ -31,9 +30,10 @@ impl Model for SpanLines {
 
 impl SpanLines {
     ghost use Rattle.std.specs.Prelude.{[], ◌≡◌, ◌∷◌, ◌++◌, IfOk, MatchResult};
-    ghost use Rattle.tabled_grid.specs.Spans.{IsSpanSize};
+    ghost use Rattle.tabled_grid.specs.Spans.{IsSpan};
     ghost use Rattle.tabled_language.specs.Drafts.{is_nil};
     ghost use Rattle.tabled_language.specs.Placed.{EndsMerge, IsMerged};
+    ghost use Rattle.tabled_grid.specs.Fitting.{all_fit};
 
     pub(crate) fn new(alloc: Global) -> Self
         ensures { result ≡ record { anchors = []; numbers = [] } }
@@ -52,7 +52,7 @@ impl SpanLines {
 
     /// Adds the anchor that the line of a number says.
     pub(crate) fn push(&mut self, number: usize, anchor: Rectangle) -> Result<(), AllocError>
-        requires { IsSpanSize anchor.size }
+        requires { IsSpan anchor.size }
         ensures anchors { IfOk result (λ _. self.new.anchors ≡ self.old.anchors ++ anchor ∷ []) }
         ensures numbers { IfOk result (λ _. self.new.numbers ≡ self.old.numbers ++ number ∷ []) }
     {
@@ -100,7 +100,7 @@ fn fit(
     columns: usize,
 ) -> Result<bool, AllocError>
     requires { AreSpans anchors.now }
-    ensures fit { IfOk result (λ fit. fit ≡ lie_well rows columns anchors.now) }
+    ensures fit { IfOk result (λ fit. fit ≡ all_fit rows columns anchors.now) }
     ensures made { IfOk result (λ fit. fit ≡ true → AreAnchors sorted.new.items × (map_of sorted.new.items ≡ from_rectangles anchors.now)) }
 {
     sorted.clear();
@@ -118,7 +118,7 @@ fn first_misfit(
     columns: usize,
 ) -> Result<usize, AllocError>
     requires sizes { AreSpans anchors.now }
-    requires misfits { lie_well rows columns anchors.now ≡ false }
+    requires misfits { all_fit rows columns anchors.now ≡ false }
     ensures { IfOk result (λ misfit. IsFirstMisfit rows columns anchors.now misfit) }
 {
     // The first `fitting` anchors fit, and the first `failing` do not.

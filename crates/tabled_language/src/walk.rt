@@ -1,9 +1,9 @@
 //! Whether rectangles lie inside a table and apart, told by one walk over their anchors, row by row.
 
 ghost use Rattle.std.specs.Prelude.{◌≡◌, ◌+◌, ◌^◌, ◌<◌, IfOk, MatchBool, MatchOption, nat_le};
-ghost use Rattle.tabled_grid.specs.Anchors.{lie_well};
 ghost use Rattle.tabled_language.specs.Placed.{AreSpans};
 ghost use Rattle.tabled_language.specs.Walk.{AreBeside, AreKeyed, DropsEnded, IsClear, IsLastBefore, IsMet, NoneBefore, RowsRise};
+ghost use Rattle.tabled_grid.specs.Fitting.{all_fit};
 
 use std::alloc::{AllocError, Global};
 use std::collections::BTreeMap;
@@ -22,7 +22,7 @@ pub(crate) fn have_places(
 ) -> Result<bool, AllocError>
     requires rising { RowsRise anchors.now }
     requires sizes { AreSpans anchors.now }
-    ensures { IfOk result (λ well. well ≡ lie_well rows columns anchors.now) }
+    ensures { IfOk result (λ well. well ≡ all_fit rows columns anchors.now) }
 {
     let mut reaching = BTreeMap::new(alloc);
     for anchor in anchors {

@@ -1,7 +1,7 @@
 -- Where merged cells lie in a table.
 use Rattle.std.proofs.lemmas.Slice.Zip.{length-zip}
 use Rattle.std.specs.List.{zip}
-use Rattle.tabled_draw.proofs.Common.{[], ◌+◌, ◌<◌, ◌∙◌, ◌∷◌, ◌≡◌, ◌≤◌, Columns, Fits, Grid, List, None, Option, Position, Size, Some, SpanMap, ap, ap₂, arith, cond_both, fitting, get, keep_fitting, length, length-map, map, place, rectangles, refl, size_at, subst, sym, ℕ}
+use Rattle.tabled_draw.proofs.Common.{[], ◌+◌, ◌<◌, ◌∙◌, ◌∷◌, ◌≡◌, ◌≤◌, Columns, Fits, Grid, List, None, Option, Position, Size, Some, SpanMap, ap, ap₂, arith, cond_both, fitting, get, keep_fitting, length, length-map, map, place, rectangle, rectangles, refl, size_at, subst, sym, ℕ}
 use Rattle.tabled_draw.proofs.Each.{all-each, length-singles}
 use Rattle.tabled_draw.proofs.Sizes.{length-sizes}
 use Rattle.tabled_draw.specs.Width.{column_widths}
@@ -19,7 +19,7 @@ ends-inside m rows columns fits p inside = cases (get m p) refl
   where
     cases : (found : Option Size) → get m p ≡ found → p.col + (size_at m p).width ≤ columns
     cases None is = rw is (omega arith)
-    cases (Some size) is = rw is (fits.inside p size is).1
+    cases (Some size) is = rw is (fits.each (rectangle p size) is).inside.right
 
 -- ---- tables by their rows
 

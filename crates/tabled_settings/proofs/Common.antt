@@ -21,7 +21,7 @@ pub use Rattle.tabled_carry.proofs.Common.{Carries, HasArea, KeepsPlaces, LeadsB
 pub use Rattle.tabled_carry.proofs.RectanglesCarried.{carries_one, takes_one}
 pub use Rattle.tabled_grid.proofs.Across.{same_grid}
 pub use Rattle.tabled_grid.proofs.AddedLines.{added_blank, added_even, added_kept, back_read, front_read}
-pub use Rattle.tabled_grid.proofs.Common.{[], ◌&&◌, ◌*◌, ◌++◌, ◌+◌, ◌-◌, ◌/◌, ◌<◌, ◌==◌, ◌||◌, ◌∙◌, ◌∷◌, ◌≡◌, ◌≢◌, ◌≤◌, ◌⊎◌, AddsColumns, AddsRows, All-filter, All-from_recursion, AllByRecursion, Bool, Err, FillsThrough, Fits, Grid, IfSome, In, IsBinarySearchResult, IsEmptyWithoutRows, IsEven, IsInside, IsShapedAs, List, None, Ok, Option, Places, Result, Some, SpanMap, WritesText, across, add-one, all-append, and_parts, ap, append_assoc, ap₂, arith, block, cases_Bool, cases_eq, cases_lt, cell_at, common_steps, cond, count_along, count_by, count_of, cut_places, div-add-mod', div_below, div_ceil, eqb, eqb-true, false, false≢true, filter, filter-append, first_along, flat_map, get_or, get_or-set_other, get_or-set_same, get_or-take, get_or_default, grid_of, inl, inr, inside, into_iter_items, joined, keep_fitting, le-ltb, length, length-append, length-map, length-take-le, length_push, line_of, list_all, list_any, ltb-false, map, map-append, map-id, map-swap, map_grid, max, mod_below, names, nat_cmp, nat_lt, ne_eqb, nil_from_length, none-some, not, nth_piece, option_map, piece_index, place, place_in, range_with_len, rectangle, recursion_from_All, refl, replicate, row_fits, rules, same_Some, set, set-get_or, sized, slice_get, slice_get-get_or, subst, suc, swap, sym, take, take_all, transposed, transposed_rows, true, unwrap_or, with_cell, with_cells_swapped, zero, ℕ}
+pub use Rattle.tabled_grid.proofs.Common.{[], ◌&&◌, ◌*◌, ◌++◌, ◌+◌, ◌-◌, ◌/◌, ◌<◌, ◌==◌, ◌||◌, ◌∙◌, ◌∷◌, ◌≡◌, ◌≢◌, ◌≤◌, ◌⊎◌, AddsColumns, AddsRows, All-filter, All-from_recursion, AllByRecursion, Bool, Err, FillsThrough, Fits, Grid, IfSome, In, IsBinarySearchResult, IsEmptyWithoutRows, IsEven, IsInside, IsShapedAs, LiesInside, List, None, Ok, Option, Places, Result, Some, SpanMap, WritesText, across, add-one, all-append, and_parts, ap, append_assoc, ap₂, arith, block, cases_Bool, cases_eq, cases_lt, cell_at, common_steps, cond, count_along, count_by, count_of, cut_places, div-add-mod', div_below, div_ceil, eqb, eqb-true, false, false≢true, filter, filter-append, first_along, flat_map, get_or, get_or-set_other, get_or-set_same, get_or-take, get_or_default, grid_of, inl, inr, inside, into_iter_items, joined, keep_fitting, le-ltb, length, length-append, length-map, length-take-le, length_push, line_of, list_all, list_any, ltb-false, map, map-append, map-id, map-swap, map_grid, max, mod_below, names, nat_cmp, nat_lt, ne_eqb, nil_from_length, none-some, not, nth_piece, option_map, piece_index, place, place_in, range_with_len, rectangle, recursion_from_All, refl, replicate, row_fits, rules, same_Some, set, set-get_or, sized, slice_get, slice_get-get_or, subst, suc, swap, sym, take, take_all, transposed, transposed_rows, true, unwrap_or, with_cell, with_cells_swapped, zero, ℕ}
 pub use Rattle.tabled_grid.specs.declared.config.rectangle.Rectangle.{Rectangle}
 pub use Rattle.tabled_grid.proofs.FirstLines.{IsEven-first, either_way}
 pub use Rattle.tabled_grid.proofs.Grids.{IsEven-map_grid, IsEven-with_cell, cell_at-map_grid, cell_at-map_grid_some, cell_at-with_cell_other, cell_at-with_cell_same}

@@ -2,7 +2,8 @@
 use Rattle.std.proofs.lemmas.Grind.{common_steps}
 use Rattle.tabled_settings.proofs.Common.{[], ◌&&◌, ◌+◌, ◌-◌, ◌<◌, ◌∙◌, ◌≡◌, ◌≢◌, ◌≤◌, ◌⊎◌, AddsColumns, AddsRows, Bool, Columns, FillsTo, Grid, GrowsTo, HasBlank, IfSome, IsEmptyWithoutRows, IsEven, IsEven-first, IsEven-with_cell, IsInside, JoinsAt, KeepsPlaces, List, None, Option, Position, Rows, Some, WritesText, added_blank, added_even, added_kept, ap, ap₂, arith, cases_lt, cell_at, cell_at-map_grid, cell_at-map_grid_some, cell_at-with_cell_other, cell_at-with_cell_same, cond, either_way, eqb, eqb-true, false, first_along, if◌then◌else◌, inl, inr, joined_places, le-leb, lt-ltb, ltb-true, map_grid, max, nat_lt, none-some, option_map, place, refl, same_Some, sym, text_put, true, unwrap_or, ℕ}
 use Rattle.tabled_grid.proofs.Squares.{wide_enough}
-use Rattle.tabled_carry.proofs.Walks.{Before, before-more}
+use Rattle.tabled_grid.proofs.Order.{before_or_at}
+use Rattle.tabled_grid.specs.Order.{IsBefore}
 use Rattle.tabled_settings.proofs.LineReads.{line_first, lines_read}
 use Rattle.tabled_settings.proofs.SameCells.{none_outside, same_cells}
 
@@ -60,7 +61,7 @@ module _ {A : Type 0} (text_of : A → List ℕ) (want : ℕ → ℕ → Option 
       columns_are = f.columns_are;
       kept = f.kept;
       unwritten = f.unwritten;
-      done = λ a b k outside before text is. elim (before-more i j (place a b) before) [
+      done = λ a b k outside before text is. elim (before_or_at i j (place a b) before) [
         | inl earlier ↦ f.done a b k outside earlier text is
         | inr same ↦ absurd (none-some text (sym none ∙ sym (ap (λ (p : Position). want p.row p.col) same) ∙ is))
       ];
@@ -74,7 +75,7 @@ module _ {A : Type 0} (text_of : A → List ℕ) (want : ℕ → ℕ → Option 
       columns_are = ap (λ (g : Grid A). g.columns) w.is ∙ f.columns_are;
       kept = λ a b h k. elsewhere a b (apart a b h k out) ∙ f.kept a b h k;
       unwritten = λ a b none. elsewhere a b (unwanted a b none) ∙ f.unwritten a b none;
-      done = λ a b k outside before t is. elim (before-more i j (place a b) before) [
+      done = λ a b k outside before t is. elim (before_or_at i j (place a b) before) [
         | inl earlier ↦ texts a b (later a b earlier) ∙ f.done a b (omega (arith, k, ap (λ (g : Grid A). g.columns) w.is)) outside earlier t is
         | inr same ↦ ap (cell_at (map_grid text_of new)) same ∙ here ∙ sym (ap (λ (p : Position). want p.row p.col) same) ∙ is
       ];
@@ -90,7 +91,7 @@ module _ {A : Type 0} (text_of : A → List ℕ) (want : ℕ → ℕ → Option 
         apart a b h k (inl low) is = let at = ap (λ (p : Position). p.row) is in absurd (omega (arith, at, h, low))
         apart a b h k (inr right) is = let at = ap (λ (p : Position). p.col) is in absurd (omega (arith, at, k, right))
 
-        later : (a b : ℕ) → Before i j (place a b) → place a b ≢ place i j
+        later : (a b : ℕ) → IsBefore (place a b) (place i j) → place a b ≢ place i j
         later a b (inl less) is = let at = ap (λ (p : Position). p.row) is in absurd (omega (arith, at, less))
         later a b (inr (row, less)) is = let at = ap (λ (p : Position). p.col) is in absurd (omega (arith, at, less))
 

@@ -1,6 +1,6 @@
 -- Merged cells when lines are put into the opposite order, once or twice.
 use Rattle.std.proofs.lemmas.Grind.{common_steps}
-use Rattle.tabled_settings.proofs.Common.{◌+◌, ◌-◌, ◌<◌, ◌∙◌, ◌≡◌, ◌≤◌, ◌⊎◌, Axis, Bool, Carries, Fits, HasArea, LeadsBack, Offset, Places, Position, Rectangle, Rows, Size, SpanMap, Top, ap, arith, carried, carried_back, carried_if, count_of, in_line, limit_end, line_of, lines_from, rectangle, refl, reversed, reversed_index, reverses, rotated, span_at, subst, sym, true, ℕ}
+use Rattle.tabled_settings.proofs.Common.{◌+◌, ◌-◌, ◌<◌, ◌∙◌, ◌≡◌, ◌≤◌, ◌⊎◌, Axis, Bool, Carries, Fits, HasArea, LeadsBack, LiesInside, Offset, Places, Position, Rectangle, Rows, Size, SpanMap, Top, ap, arith, carried, carried_back, carried_if, count_of, in_line, limit_end, line_of, lines_from, rectangle, refl, reversed, reversed_index, reverses, rotated, span_at, subst, sym, true, ℕ}
 use Rattle.tabled_grid.specs.declared.config.offset.Offset.TheVariants.{End}
 use Rattle.tabled_settings.proofs.AlongLines.{lies_along}
 use Rattle.tabled_settings.proofs.MirroredParts.{part_mirrored}
@@ -25,11 +25,11 @@ module _ (axis : Axis) (old : ℕ → ℕ) (rows columns : ℕ) (mirrors : (i : 
   leads_back : LeadsBack places places
   leads_back = lines_lead_back axis old rows columns (λ i h. let far = mirrors i h in let within : old i < count_of axis rows columns = omega (arith, far) in (within, omega (arith, far, mirrors (old i) within)))
 
-  moved : (a : Position) (s : Size) → HasArea (rectangle a s) → a.row + s.height ≤ rows → a.col + s.width ≤ columns → (f : Rectangle) × Carries places (rectangle a s) f × HasArea f
-  moved a s full high far = (rectangle (in_line axis a (count_of axis rows columns - (line_of axis a + count_of axis s.height s.width))) s, lines_carry a s high far, record { height = full.height; width = full.width })
+  moved : (a : Position) (s : Size) → HasArea (rectangle a s) → LiesInside rows columns (rectangle a s) → (f : Rectangle) × Carries places (rectangle a s) f × HasArea f
+  moved a s full inside = (rectangle (in_line axis a (count_of axis rows columns - (line_of axis a + count_of axis s.height s.width))) s, lines_carry a s inside.bottom inside.right, record { height = full.height; width = full.width })
 
   twice : (m : SpanMap) → Fits m rows columns → carried places rows columns (carried places rows columns m) ≡ m
-  twice m fits = carried_back places places leads_back m rows columns fits (record { each = λ a s h. let size = span_at m a s h in let room = fits.inside a s h in moved a s (record { height = size.height; width = size.width }) room.0 room.1 })
+  twice m fits = carried_back places places leads_back m rows columns fits (record { each = λ a s h. let size = span_at m a s h in moved a s (record { height = size.height; width = size.width }) (fits.each (rectangle a s) h).inside })
 
 pub top_twice_spans : (rows columns : ℕ) (m : SpanMap) → Fits m rows columns → carried (rotated Top rows columns) rows columns (carried (rotated Top rows columns) rows columns m) ≡ m
 top_twice_spans rows columns = twice Rows (λ i. rows - 1 - i) rows columns (λ i h. omega (arith, h))

@@ -1,6 +1,6 @@
 -- Where the rectangles of a table go that is turned, and merged cells turned to the left and back.
 use Rattle.std.proofs.lemmas.Grind.{common_steps}
-use Rattle.tabled_settings.proofs.Common.{◌+◌, ◌-◌, ◌<◌, ◌≡◌, ◌≤◌, ◌⊎◌, Axis, Bottom, Carries, Columns, Fits, HasArea, In, Left, Position, Rectangle, Right, Rotate, Rows, SpanMap, Takes, Top, across, across_is, ap, ap₂, arith, carried, carried_back, count_of, inl, inr, line_is, line_of, place, place_in, quarter_of, rectangle, refl, rotated, sized, span_at, subst, sym, upside_down, ℕ}
+use Rattle.tabled_settings.proofs.Common.{◌+◌, ◌-◌, ◌<◌, ◌≡◌, ◌≤◌, ◌⊎◌, Axis, Bottom, Carries, Columns, Fits, HasArea, In, Left, LiesInside, Position, Rectangle, Right, Rotate, Rows, SpanMap, Takes, Top, across, across_is, ap, ap₂, arith, carried, carried_back, count_of, inl, inr, line_is, line_of, place, place_in, quarter_of, rectangle, refl, rotated, sized, span_at, subst, sym, upside_down, ℕ}
 use Rattle.tabled_settings.proofs.AlongLines.{LiesAlong, is_along, is_in, lies_along}
 use Rattle.tabled_settings.proofs.MirroredSpans.{lines_carry}
 use Rattle.tabled_settings.proofs.Rotated.{taken_turned, takes_turned, as_wide, left_leads_back}
@@ -105,17 +105,17 @@ turned_from Top rows columns p q t = upside_down_from rows columns p q t
 turned_from Bottom rows columns p q t = upside_down_from rows columns p q t
 
 -- a rectangle of which each cell goes to a place lies inside the table
-pub turned_inside : (turn : Rotate) (rows columns : ℕ) (e f : Rectangle) → HasArea e → Carries (rotated turn rows columns) e f → (e.first.row + e.size.height ≤ rows) × (e.first.col + e.size.width ≤ columns)
+pub turned_inside : (turn : Rotate) (rows columns : ℕ) (e f : Rectangle) → HasArea e → Carries (rotated turn rows columns) e f → LiesInside rows columns e
 turned_inside turn rows columns e f full c =
     let q : Position = place (e.first.row + e.size.height - 1) (e.first.col + e.size.width - 1) in
     let last : In e q = record { top = omega (arith, full.height); bottom = omega (arith, full.height); left = omega (arith, full.width); right = omega (arith, full.width) } in
     let p = c.all q last in
     let at = turned_from turn rows columns p.0 q p.1 in
-    (omega (arith, at.0, full.height), omega (arith, at.1, full.width))
+    record { bottom = omega (arith, at.0, full.height); right = omega (arith, at.1, full.width) }
 
 -- turned to the left and then to the right, they are as they were
 pub left_then_right_spans : (rows columns : ℕ) → 0 < rows → 0 < columns → (m : SpanMap) → Fits m rows columns → carried (rotated Right columns rows) columns rows (carried (rotated Left rows columns) rows columns m) ≡ m
 left_then_right_spans rows columns tall wide m fits =
     subst (λ (n : ℕ). carried (rotated Right columns rows) columns n (carried (rotated Left rows columns) rows columns m) ≡ m) (as_wide columns rows wide)
     (carried_back (rotated Left rows columns) (rotated Right columns rows) (left_leads_back rows columns) m rows columns fits
-    (record { each = λ a s h. let size = span_at m a s h in let room = fits.inside a s h in (turned Left rows columns (rectangle a s), turned_carries Left rows columns (rectangle a s) room.0 room.1, turned_full Left rows columns (rectangle a s) (record { height = size.height; width = size.width })) }))
+    (record { each = λ a s h. let size = span_at m a s h in let room = (fits.each (rectangle a s) h).inside in (turned Left rows columns (rectangle a s), turned_carries Left rows columns (rectangle a s) room.bottom room.right, turned_full Left rows columns (rectangle a s) (record { height = size.height; width = size.width })) }))

@@ -4,6 +4,7 @@ use Rattle.std.specs.Global.{Global}
 use Rattle.std.specs.Option.{unwrap_or}
 use Rattle.tabled_grid.specs.Entity.{place}
 use Rattle.tabled_grid.specs.Grid.{Grid, IsEven, cell_at, map_grid}
+use Rattle.tabled_grid.specs.Order.{IsBefore}
 use Rattle.tabled_grid.specs.declared.config.position.Position.{Position}
 use Rattle.tabled_grid.specs.declared.records.axis.Axis.{Axis}
 use Rattle.tabled_grid.specs.declared.records.axis.Axis.TheVariants.{Rows, Columns}
@@ -70,7 +71,7 @@ pub record FillsTo {A : Type 0} (text_of : A → List ℕ) (want : ℕ → ℕ �
   pub columns_are : new.columns ≡ old.columns
   pub kept : (a b : ℕ) → a < rows → b < columns → cell_at new (place a b) ≡ cell_at old (place a b)
   pub unwritten : (a b : ℕ) → want a b ≡ None → cell_at new (place a b) ≡ cell_at old (place a b)
-  pub done : (a b : ℕ) → b < new.columns → (rows ≤ a) ⊎ (columns ≤ b) → (a < i) ⊎ ((a ≡ i) × (b < j)) → (text : List ℕ) → want a b ≡ Some text → cell_at (map_grid text_of new) (place a b) ≡ Some text
+  pub done : (a b : ℕ) → b < new.columns → (rows ≤ a) ⊎ (columns ≤ b) → IsBefore (place a b) (place i j) → (text : List ℕ) → want a b ≡ Some text → cell_at (map_grid text_of new) (place a b) ≡ Some text
 
 -- a second table that is joined: the shape of the first one, where the second begins, its texts, and the text for cells that the first lacks
 pub record Joint : Type 0 where

@@ -1,5 +1,5 @@
 -- What a search of the anchors tells.
-use Rattle.tabled_spans.proofs.Common.{[], ◌&&◌, ◌-◌, ◌<◌, ◌==◌, ◌∙◌, ◌∷◌, ◌≡◌, ◌≤◌, ◌⊎◌, AllByRecursion, AreSorted, Below, Bool, Earlier, Err, IsBinarySearchResult, IsSearchInRange, List, MatchResult, None, Ok, Position, Rectangle, Result, Size, Some, SpanMap, StandBelow, ap, arith, below_at, both, cases_Bool, cond, drop, drop_all, earlier, equal, false, find_at, get, get-rectangles, get_or, inl, inr, is_cell, is_eq, length, ne_eqb, not, position_cmp, positions_exact, rectangle, rectangles, rectangles_sorted, refl, searched, size_at, sized, span_at, subst, suc, sym, take, true, zero, ℕ}
+use Rattle.tabled_spans.proofs.Common.{[], ◌&&◌, ◌-◌, ◌<◌, ◌==◌, ◌∙◌, ◌∷◌, ◌≡◌, ◌≤◌, ◌⊎◌, AllByRecursion, AreSorted, Below, Bool, Err, IsBefore, IsBinarySearchResult, IsSearchInRange, List, MatchResult, None, Ok, Position, Rectangle, Result, Size, Some, SpanMap, StandBelow, ap, arith, below_at, both, cases_Bool, cond, drop, drop_all, before-less, equal, false, find_at, get, get-rectangles, get_or, inl, inr, is_cell, is_eq, length, ne_eqb, not, position_cmp, positions_exact, rectangle, rectangles, rectangles_sorted, refl, searched, size_at, sized, span_at, subst, suc, sym, take, true, zero, ℕ}
 use Rattle.std.specs.Result.{is_ok}
 use Rattle.tabled_grid.proofs.SortedEntries.{halves}
 use Rattle.tabled_spans.proofs.RunLists.{all_then}
@@ -36,9 +36,9 @@ sorted_take (suc n) (e ∷ es) up = both _ _ (below_take e.first n es (halves _ 
 rows_rise : (k : ℕ) (es : List Rectangle) (d : Rectangle) → AreSorted es → k < length es → AllByRecursion (λ (e : Rectangle). e.first.row ≤ (get_or es k d).first.row) (take (suc k) es)
 rows_rise k [] d up within = absurd (omega arith)
 rows_rise zero (e ∷ es) d up within = (omega arith, tt)
-rows_rise (suc k) (e ∷ es) d up within = (up_row _ _ (earlier e.first (get_or es k d).first (below_at e.first es k d (halves _ _ up).0 (omega arith))), rows_rise k es d (halves _ _ up).1 (omega arith))
+rows_rise (suc k) (e ∷ es) d up within = (up_row _ _ (before-less e.first (get_or es k d).first (below_at e.first es k d (halves _ _ up).0 (omega arith))), rows_rise k es d (halves _ _ up).1 (omega arith))
   where
-    up_row : (a b : Position) → Earlier a b → a.row ≤ b.row
+    up_row : (a b : Position) → IsBefore a b → a.row ≤ b.row
     up_row a b (inl l) = omega (arith, l)
     up_row a b (inr l) = omega (arith, l.0)
 

@@ -4,12 +4,12 @@ use Rattle.std.specs.FinMap.{find}
 use Rattle.std.specs.FinMap.Entries.{find-where_key}
 use Rattle.tabled_grid.proofs.Members.{sorted-filter}
 use Rattle.tabled_grid.proofs.SortedEntries.{find_at, pairs-filter}
-use Rattle.tabled_spans.proofs.Common.{[], ◌<◌, ◌∙◌, ◌∷◌, ◌≡◌, ◌≤◌, ◌⊎◌, AllByRecursion, AreSorted, Axis, Bool, Columns, Entity, Grid, In, IsInside, IsOfRun, IsRun, IsSizeAt, Joins, List, MergesRuns, None, Option, Position, Rectangle, Rows, RunsFrom, RunsOf, Size, Some, SpanMap, across, ap, ap₂, arith, cases_Bool, cond, count_along, false, false≢true, filter, find, further, get, inl, inr, lines_in, map_grid, none-some, not, positions_exact, refl, same_map, size_of_run, subst, sym, true, with_sizes, ℕ}
+use Rattle.tabled_spans.proofs.Common.{[], ◌<◌, ◌∙◌, ◌∷◌, ◌≡◌, ◌≤◌, ◌⊎◌, AllByRecursion, AreSorted, Axis, Bool, Columns, Entity, Grid, HasArea, In, IsInside, IsOfRun, IsRun, Joins, List, MergesRuns, None, Option, Position, Rectangle, Rows, RunsFrom, RunsOf, Size, Some, SpanMap, across, ap, ap₂, arith, before_first, cases_Bool, cond, count_along, false, false≢true, filter, find, further, get, inl, inr, lines_in, map_grid, none-some, not, positions_exact, refl, same_map, size_of_run, subst, sym, true, with_sizes, ℕ}
 use Rattle.tabled_grid.specs.declared.config.entity.Entity.TheVariants.{Global}
 use Rattle.tabled_grid.specs.Spans.{pairs, position_cmp, rectangle}
 use Rattle.tabled_options.specs.Does.{Change, Each, EachUntil, Same, SameOr}
 use Rattle.tabled_spans.proofs.LineRuns.{none_left, run_all, run_before, run_named, run_on, run_still}
-use Rattle.tabled_spans.proofs.RunLists.{all_then, begins_named, none_before, set_run, sizes_full}
+use Rattle.tabled_spans.proofs.RunLists.{all_then, begins_named, set_run, sizes_full}
 use Rattle.tabled_spans.proofs.Runs.{further_none}
 use Rattle.tabled_spans.proofs.SetSizes.{found_in, get-with_sizes, set_or}
 use Rattle.tabled_spans.specs.Lines.{MergesEach, RunsIn, is_named_by, line_at, names_line}
@@ -156,7 +156,7 @@ module _ (axis : Axis) (g : Grid (List ℕ)) where
   runs_kept is_in m block holds es listed = record {
     sorted = sorted-filter (λ (e : Rectangle). is_in (line_at axis e.first)) es listed.sorted;
     each = kept es listed.each;
-    all = λ p many is run. find_kept (λ q. is_in (line_at axis q)) p es ∙ ap (λ b. cond b (find_at p es) None) is ∙ listed.all p many run (holds p (begins_named axis Global g m p many run).inside is) (none_before p);
+    all = λ p many is run. find_kept (λ q. is_in (line_at axis q)) p es ∙ ap (λ b. cond b (find_at p es) None) is ∙ listed.all p many run (holds p (begins_named axis Global g m p many run).inside is) (before_first p);
   }
     where
       kept : (rest : List Rectangle) → AllByRecursion (IsOfRun axis Global g m) rest → AllByRecursion (λ (e : Rectangle). (is_in (line_at axis e.first) ≡ true) × IsOfRun axis Global g m e) (filter (λ (e : Rectangle). is_in (line_at axis e.first)) rest)
@@ -167,7 +167,7 @@ module _ (axis : Axis) (g : Grid (List ℕ)) where
       ] refl
 
   -- their sizes are those of cells or more
-  pub runs_full : (is_in : ℕ → Bool) (m : SpanMap) (es : List Rectangle) → RunsIn axis is_in g m es → AllByRecursion IsSizeAt es
+  pub runs_full : (is_in : ℕ → Bool) (m : SpanMap) (es : List Rectangle) → RunsIn axis is_in g m es → AllByRecursion HasArea es
   runs_full is_in m es listed = sizes_full axis Global g m es (all_then {Q = IsOfRun axis Global g m} (λ e it. it.1) es listed.each)
 
 -- merges of texts are what the option does on one entity after another

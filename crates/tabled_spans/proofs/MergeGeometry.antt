@@ -1,5 +1,5 @@
 -- Rectangles lie well after runs are merged where they did before, and a second merge finds no runs.
-use Rattle.tabled_spans.proofs.Common.{◌+◌, ◌-◌, ◌<◌, ◌∙◌, ◌≡◌, ◌≤◌, ◌⊎◌, Axis, Columns, Entity, Fits, Grid, In, IsInside, IsRun, IsSpanSize, List, MergesRuns, Position, Rows, Size, Some, SpanMap, and_parts, ap, ap₂, arith, cases_lt, eqb-true, further, get, holds-from, holds-true, inl, inr, is_free, place, rectangle, same_Some, size_at, size_at-some, size_of_run, span_at, subst, sym, true, visible, ℕ}
+use Rattle.tabled_spans.proofs.Common.{◌+◌, ◌-◌, ◌<◌, ◌∙◌, ◌≡◌, ◌≤◌, ◌⊎◌, Axis, Columns, Entity, Fits, Grid, In, IsInside, IsRun, IsSpan, LiesInside, List, MergesRuns, Position, Rows, Size, Some, SpanMap, and_parts, ap, ap₂, arith, cases_lt, eqb-true, further, get, inl, inr, is_free, place, rectangle, same_Some, size_at, size_at-some, size_of_run, span_at, subst, sym, true, visible, ℕ}
 use Rattle.tabled_spans.proofs.Runs.{further_more, further_none}
 
 -- a place of a run's rectangle is n cells from its first
@@ -55,15 +55,15 @@ module _ (axis : Axis) (entity : Entity) (g : Grid (List ℕ)) (m : SpanMap) whe
       let size : size_at m p ≡ t = size_at-some m p t (subst (λ x. get m x ≡ Some t) same has) in
       one t (span_at m b t has) (sym (ap (λ (s : Size). s.height) size) ∙ eqb-true _ _ ones.0) (sym (ap (λ (s : Size). s.width) size) ∙ eqb-true _ _ ones.1)
     where
-      one : (s : Size) → IsSpanSize s → s.height ≡ 1 → s.width ≡ 1 → ⊥
+      one : (s : Size) → IsSpan s → s.height ≡ 1 → s.width ≡ 1 → ⊥
       one s is e f = elim is.merges [ inl h ↦ omega (arith, h, e) | inr h ↦ omega (arith, h, f) ]
 
-  run_inside : (a : Position) (many : ℕ) → IsRun axis entity g m a many → (a.row + (size_of_run axis many).height ≤ g.rows) × (a.col + (size_of_run axis many).width ≤ g.columns)
-  run_inside a many run = by axis (run_cell a many (many - 1) run (omega (arith, run.some))).inside
+  run_inside : (a : Position) (many : ℕ) → IsRun axis entity g m a many → LiesInside g.rows g.columns (rectangle a (size_of_run axis many))
+  run_inside a many run = ends_inside axis (run_cell a many (many - 1) run (omega (arith, run.some))).inside
     where
-      by : (x : Axis) → IsInside g (further x (many - 1) a) → (a.row + (size_of_run x many).height ≤ g.rows) × (a.col + (size_of_run x many).width ≤ g.columns)
-      by Rows h = (omega (arith, h.row, run.some), omega (arith, h.col))
-      by Columns h = (omega (arith, h.row), omega (arith, h.col, run.some))
+      ends_inside : (x : Axis) → IsInside g (further x (many - 1) a) → LiesInside g.rows g.columns (rectangle a (size_of_run x many))
+      ends_inside Rows h = record { bottom = omega (arith, h.row, run.some); right = omega (arith, h.col) }
+      ends_inside Columns h = record { bottom = omega (arith, h.row); right = omega (arith, h.col, run.some) }
 
   module _ (n : SpanMap) (merged : MergesRuns axis entity g m n) (fits : Fits m g.rows g.columns) where
     -- an anchor is that of a run, or an old one
@@ -78,14 +78,19 @@ module _ (axis : Axis) (entity : Entity) (g : Grid (List ℕ)) (m : SpanMap) whe
     ]
 
     pub fits_merged : Fits n g.rows g.columns
-    fits_merged = record { inside = λ a s has. inside a s (anchor a s has); apart = λ a b s t p ha hb ia ib. apart a b s t p (holds-true (rectangle a s) p ia) (holds-true (rectangle b t) p ib) (anchor a s ha) (anchor b t hb) }
+    fits_merged = record {
+      each = λ e has. record {
+        inside = inside e.first e.size (anchor e.first e.size has);
+        alone = λ f p had i j. alone e.first f.first e.size f.size p i j (anchor e.first e.size has) (anchor f.first f.size had);
+      };
+    }
       where
-        inside : (a : Position) (s : Size) → Anchored a s → (a.row + s.height ≤ g.rows) × (a.col + s.width ≤ g.columns)
+        inside : (a : Position) (s : Size) → Anchored a s → LiesInside g.rows g.columns (rectangle a s)
         inside a s (of_run many run e) = rw e (run_inside a many run)
-        inside a s (of_old has) = fits.inside a s has
+        inside a s (of_old has) = (fits.each (rectangle a s) has).inside
 
-        apart : (a b : Position) (s t : Size) (p : Position) → In (rectangle a s) p → In (rectangle b t) p → Anchored a s → Anchored b t → a ≡ b
-        apart a b s t p ha hb (of_run many run e) (of_run k other f) = same_first a b p many k run other (rw e at ha) (rw f at hb)
-        apart a b s t p ha hb (of_run many run e) (of_old has) = absurd (no_old g.rows g.columns a b p many t fits run has (rw e at ha) hb)
-        apart a b s t p ha hb (of_old has) (of_run many run e) = absurd (no_old g.rows g.columns b a p many s fits run has (rw e at hb) ha)
-        apart a b s t p ha hb (of_old has) (of_old had) = fits.apart a b s t p has had (holds-from (rectangle a s) p ha) (holds-from (rectangle b t) p hb)
+        alone : (a b : Position) (s t : Size) (p : Position) → In (rectangle a s) p → In (rectangle b t) p → Anchored a s → Anchored b t → a ≡ b
+        alone a b s t p ha hb (of_run many run e) (of_run k other f) = same_first a b p many k run other (rw e at ha) (rw f at hb)
+        alone a b s t p ha hb (of_run many run e) (of_old has) = absurd (no_old g.rows g.columns a b p many t fits run has (rw e at ha) hb)
+        alone a b s t p ha hb (of_old has) (of_run many run e) = absurd (no_old g.rows g.columns b a p many s fits run has (rw e at hb) ha)
+        alone a b s t p ha hb (of_old has) (of_old had) = (fits.each (rectangle a s) has).alone (rectangle b t) p had ha hb

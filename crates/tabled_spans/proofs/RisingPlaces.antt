@@ -1,19 +1,19 @@
 -- The places that an entity names rise, row by row.
-use Rattle.tabled_spans.proofs.Common.{[], ◌++◌, ◌+◌, ◌-◌, ◌<◌, ◌∷◌, AllByRecursion, AreSorted, Below, Bool, Earlier, Entity, List, Ordering, Position, Rectangle, T, all-append, arith, both, cond, false, filter, flat_map, from_earlier, inl, inr, inside, is_lt, map, names, place, range_with_len, rectangle, refl, row_places, sized, subst, suc, sym, true, zero, ℕ}
+use Rattle.tabled_spans.proofs.Common.{[], ◌++◌, ◌+◌, ◌-◌, ◌<◌, ◌∷◌, AllByRecursion, AreSorted, Below, Bool, Entity, IsBefore, List, Ordering, Position, Rectangle, T, all-append, arith, both, cond, false, filter, flat_map, inl, inr, inside, is_lt, less-before, map, names, place, range_with_len, rectangle, refl, row_places, sized, subst, suc, sym, true, zero, ℕ}
 use Rattle.tabled_select.proofs.Sifted.{all-filter}
 
 -- each place comes before all that follow
 abbrev Rise : List Position → Type 0
 Rise [] = Unit {0}
-Rise (p ∷ ps) = AllByRecursion (Earlier p) ps × Rise ps
+Rise (p ∷ ps) = AllByRecursion (IsBefore p) ps × Rise ps
 
 -- places of one cell each
 abbrev pub ones : List Position → List Rectangle
 ones ps = map (λ (p : Position). rectangle p (sized 1 1)) ps
 
-below_ones : (k : Position) (ps : List Position) → AllByRecursion (Earlier k) ps → Below k (ones ps)
+below_ones : (k : Position) (ps : List Position) → AllByRecursion (IsBefore k) ps → Below k (ones ps)
 below_ones k [] all = tt
-below_ones k (p ∷ ps) all = both _ _ (subst (λ (o : Ordering). T (is_lt o)) (sym (from_earlier k p all.0)) tt) (below_ones k ps all.1)
+below_ones k (p ∷ ps) all = both _ _ (subst (λ (o : Ordering). T (is_lt o)) (sym (less-before k p all.0)) tt) (below_ones k ps all.1)
 
 sorted_ones : (ps : List Position) → Rise ps → AreSorted (ones ps)
 sorted_ones [] rise = tt
@@ -22,16 +22,16 @@ sorted_ones (p ∷ ps) rise = both _ _ (below_ones p ps rise.0) (sorted_ones ps 
 rise-filter : (f : Position → Bool) (ps : List Position) → Rise ps → Rise (filter f ps)
 rise-filter f [] rise = tt
 rise-filter f (p ∷ ps) rise = elim (f p) as (λ b. Rise (cond b (p ∷ filter f ps) (filter f ps))) [
-  | true ↦ (all-filter (Earlier p) f ps rise.0, rise-filter f ps rise.1)
+  | true ↦ (all-filter (IsBefore p) f ps rise.0, rise-filter f ps rise.1)
   | false ↦ rise-filter f ps rise.1
 ]
 
-rise-append : (ps qs : List Position) → Rise ps → Rise qs → AllByRecursion (λ p. AllByRecursion (Earlier p) qs) ps → Rise (ps ++ qs)
+rise-append : (ps qs : List Position) → Rise ps → Rise qs → AllByRecursion (λ p. AllByRecursion (IsBefore p) qs) ps → Rise (ps ++ qs)
 rise-append [] qs h k across = k
-rise-append (p ∷ ps) qs h k across = (all-append (Earlier p) ps qs h.0 across.0, rise-append ps qs h.1 k across.1)
+rise-append (p ∷ ps) qs h k across = (all-append (IsBefore p) ps qs h.0 across.0, rise-append ps qs h.1 k across.1)
 
 -- a place before a row's place comes before the rest of the row
-all_row : (p : Position) (i c n : ℕ) → Earlier p (place i c) → AllByRecursion (Earlier p) (map (place i) (range_with_len c n))
+all_row : (p : Position) (i c n : ℕ) → IsBefore p (place i c) → AllByRecursion (IsBefore p) (map (place i) (range_with_len c n))
 all_row p i c zero h = tt
 all_row p i c (suc n) h = (h, all_row p i (c + 1) n (elim h [ inl above ↦ inl above | inr left ↦ inr (left.0, omega (arith, left.1)) ]))
 
@@ -39,11 +39,11 @@ rise_row : (i c n : ℕ) → Rise (map (place i) (range_with_len c n))
 rise_row i c zero = tt
 rise_row i c (suc n) = (all_row (place i c) i (c + 1) n (inr (refl, omega arith)), rise_row i (c + 1) n)
 
-all_rows : (p : Position) (a n c d : ℕ) → p.row < a → AllByRecursion (Earlier p) (flat_map (row_places c d) (range_with_len a n))
+all_rows : (p : Position) (a n c d : ℕ) → p.row < a → AllByRecursion (IsBefore p) (flat_map (row_places c d) (range_with_len a n))
 all_rows p a zero c d h = tt
-all_rows p a (suc n) c d h = all-append (Earlier p) (row_places c d a) _ (all_row p a c (d - c) (inl h)) (all_rows p (a + 1) n c d (omega arith))
+all_rows p a (suc n) c d h = all-append (IsBefore p) (row_places c d a) _ (all_row p a c (d - c) (inl h)) (all_rows p (a + 1) n c d (omega arith))
 
-each_row : (i c n : ℕ) (qs : List Position) → ((p : Position) → p.row < i + 1 → AllByRecursion (Earlier p) qs) → AllByRecursion (λ p. AllByRecursion (Earlier p) qs) (map (place i) (range_with_len c n))
+each_row : (i c n : ℕ) (qs : List Position) → ((p : Position) → p.row < i + 1 → AllByRecursion (IsBefore p) qs) → AllByRecursion (λ p. AllByRecursion (IsBefore p) qs) (map (place i) (range_with_len c n))
 each_row i c zero qs h = tt
 each_row i c (suc n) qs h = (h (place i c) (omega arith), each_row i (c + 1) n qs h)
 

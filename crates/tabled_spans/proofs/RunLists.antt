@@ -1,5 +1,5 @@
--- The order of places, row by row, and the map in which runs that are listed are rectangles.
-use Rattle.tabled_spans.proofs.Common.{AllByRecursion, Axis, Before, Bool, Columns, Entity, Grid, IsNamed, IsOfRun, IsRun, IsSizeAt, IsSpanSize, List, MergesRuns, None, Option, Position, Rectangle, Rows, RunsOf, Size, Some, SpanMap, [], ap, ap₂, arith, cases_lt, find_at, get, if◌then◌else◌, inl, inr, is_span, none-some, place, refl, size_of_run, span-from, subst, sym, true, with_sizes, ℕ, ◌+◌, ◌<◌, ◌∙◌, ◌∷◌, ◌≡◌, ◌≤◌, ◌⊎◌}
+-- The order of rows of places, and the map in which runs that are listed are rectangles.
+use Rattle.tabled_spans.proofs.Common.{AllByRecursion, Axis, IsBefore, Bool, Columns, Entity, Grid, HasArea, IsNamed, IsOfRun, IsRun, IsSpan, List, MergesRuns, None, Option, Position, Rectangle, Rows, RunsOf, Size, Some, SpanMap, [], ap, ap₂, arith, cases_lt, find_at, get, if◌then◌else◌, inl, inr, is_span, none-some, place, refl, size_of_run, span-from, subst, sym, true, with_sizes, ℕ, ◌+◌, ◌<◌, ◌∙◌, ◌∷◌, ◌≡◌, ◌≤◌, ◌⊎◌}
 use Rattle.tabled_spans.proofs.Runs.{further_none}
 use Rattle.tabled_spans.proofs.SetSizes.{found_in, get-with_sizes, set_or}
 
@@ -7,25 +7,12 @@ pub all_then : {A : Type 0} {P Q : A → Type 0} → ((x : A) → P x → Q x) �
 all_then f [] all = tt
 all_then f (x ∷ xs) all = (f x all.0, all_then f xs all.1)
 
-pub none_before : (p : Position) → Before 0 0 p → ⊥
-none_before p (inl above) = omega (arith, above)
-none_before p (inr h) = omega (arith, h.1)
-
-pub one_more : (i j : ℕ) (p : Position) → Before i j p → Before i (j + 1) p
-one_more i j p (inl above) = inl above
-one_more i j p (inr (same, left)) = inr (same, omega arith)
-
--- before the place after another: before it, or at it
-pub split_last : (i j : ℕ) (p : Position) → Before i (j + 1) p → Before i j p ⊎ (p ≡ place i j)
-split_last i j p (inl above) = inl (inl above)
-split_last i j p (inr (same, left)) = elim (cases_lt p.col j) [ inl l ↦ inl (inr (same, l)) | inr l ↦ inr (ap₂ place same (omega arith)) ]
-
 -- a place that comes before the next row comes before the end of this one
-pub in_row : (i j left : ℕ) (p : Position) → left ≤ p.col → p.col < j → Before (i + 1) left p → Before i j p
+pub in_row : (i j left : ℕ) (p : Position) → left ≤ p.col → p.col < j → IsBefore p (place (i + 1) left) → IsBefore p (place i j)
 in_row i j left p from inside (inr h) = absurd (omega (arith, h.1, from))
 in_row i j left p from inside (inl above) = elim (cases_lt p.row i) [ inl l ↦ inl l | inr l ↦ inr (omega arith, inside) ]
 
-pub next_row : (i j left : ℕ) (p : Position) → Before i j p → Before (i + 1) left p
+pub next_row : (i j left : ℕ) (p : Position) → IsBefore p (place i j) → IsBefore p (place (i + 1) left)
 next_row i j left p (inl above) = inl (omega arith)
 next_row i j left p (inr h) = inl (omega (arith, h.0))
 
@@ -33,7 +20,7 @@ next_row i j left p (inr h) = inl (omega (arith, h.0))
 run_is_span : (axis : Axis) (many : ℕ) → 2 ≤ many → is_span (size_of_run axis many) ≡ true
 run_is_span axis many two = span-from (size_of_run axis many) (by axis)
   where
-    by : (x : Axis) → IsSpanSize (size_of_run x many)
+    by : (x : Axis) → IsSpan (size_of_run x many)
     by Rows = record { height = omega arith; width = omega arith; merges = inl two }
     by Columns = record { height = omega arith; width = omega arith; merges = inr two }
 
@@ -46,12 +33,12 @@ module _ (axis : Axis) (entity : Entity) (g : Grid (List ℕ)) (m : SpanMap) whe
   begins_named p n run = subst (IsNamed entity g) (further_none axis p) (run.joins 0 (omega (arith, run.some))).here
 
   -- its size is that of a cell or more
-  of_run : (x : Axis) (anchor : Rectangle) (many : ℕ) → 2 ≤ many → anchor.size ≡ size_of_run x many → IsSizeAt anchor
+  of_run : (x : Axis) (anchor : Rectangle) (many : ℕ) → 2 ≤ many → anchor.size ≡ size_of_run x many → HasArea anchor
   of_run Rows anchor many some is = record { height = rw is (omega (arith, some)); width = rw is (omega arith) }
   of_run Columns anchor many some is = record { height = rw is (omega arith); width = rw is (omega (arith, some)) }
 
-  pub sizes_full : (es : List Rectangle) → AllByRecursion (IsOfRun axis entity g m) es → AllByRecursion IsSizeAt es
-  sizes_full es each = all_then {Q = IsSizeAt} (λ anchor it. of_run axis anchor it.0 it.1.some it.2) es each
+  pub sizes_full : (es : List Rectangle) → AllByRecursion (IsOfRun axis entity g m) es → AllByRecursion HasArea es
+  sizes_full es each = all_then {Q = HasArea} (λ anchor it. of_run axis anchor it.0 it.1.some it.2) es each
 
   pub runs_merged : (es : List Rectangle) → RunsOf axis entity g m es → MergesRuns axis entity g m (with_sizes m es)
   runs_merged es listed = record { each = λ p. by p (find_at p es) refl }

@@ -1,19 +1,19 @@
 -- Lists of the runs from a place on, row by row.
-use Rattle.tabled_spans.proofs.Common.{[], ◌+◌, ◌∙◌, ◌∷◌, ◌≡◌, ◌≢◌, ◌≤◌, AllByRecursion, Axis, Before, Below, Entity, Grid, In, IsNamed, IsRun, List, Position, Rectangle, RunAt, RunsFrom, RunsOf, Some, SpanMap, ap, arith, both, cases_place, common_steps, cond, find_at, from_earlier, inl, inr, is_eq, place, position_cmp, rectangle, refl, size_of_run, subst, tied, true, untied, ℕ}
-use Rattle.tabled_spans.proofs.RunLists.{all_then, begins_named, in_row, next_row, none_before, one_more, split_last}
+use Rattle.tabled_spans.proofs.Common.{[], ◌+◌, ◌∙◌, ◌∷◌, ◌≡◌, ◌≢◌, ◌≤◌, AllByRecursion, Axis, IsBefore, Below, Entity, Grid, In, IsNamed, IsRun, List, Position, Rectangle, RunAt, RunsFrom, RunsOf, Some, SpanMap, ap, arith, before_first, before_more, before_or_at, both, cases_place, common_steps, cond, find_at, inl, inr, is_eq, less-before, place, position_cmp, rectangle, refl, size_of_run, subst, tied, true, untied, ℕ}
+use Rattle.tabled_spans.proofs.RunLists.{all_then, begins_named, in_row, next_row}
 use Rattle.tabled_spans.proofs.Runs.{same_run}
 
 -- a place that comes not before the next one of another comes after this
-is_after : (i j : ℕ) (q : Position) → (Before i (j + 1) q → ⊥) → Before q.row q.col (place i j)
+is_after : (i j : ℕ) (q : Position) → (IsBefore q (place i (j + 1)) → ⊥) → IsBefore (place i j) q
 is_after i j q never = grind (arith, common_steps)
 
-not_itself : (i j : ℕ) → Before i j (place i j) → ⊥
+not_itself : (i j : ℕ) → IsBefore (place i j) (place i j) → ⊥
 not_itself i j (inl above) = omega (arith, above)
 not_itself i j (inr h) = omega (arith, h.1)
 
-below_after : (i j : ℕ) (es : List Rectangle) → AllByRecursion (λ (e : Rectangle). Before i (j + 1) e.first → ⊥) es → Below (place i j) es
+below_after : (i j : ℕ) (es : List Rectangle) → AllByRecursion (λ (e : Rectangle). IsBefore e.first (place i (j + 1)) → ⊥) es → Below (place i j) es
 below_after i j [] after = tt
-below_after i j (e ∷ es) after = both _ _ (rw (from_earlier (place i j) e.first (is_after i j e.first after.0)) tt) (below_after i j es after.1)
+below_after i j (e ∷ es) after = both _ _ (rw (less-before (place i j) e.first (is_after i j e.first after.0)) tt) (below_after i j es after.1)
 
 module _ (axis : Axis) (entity : Entity) (g : Grid (List ℕ)) (m : SpanMap) (block : Rectangle) where
   -- no run begins below the block
@@ -24,7 +24,7 @@ module _ (axis : Axis) (entity : Entity) (g : Grid (List ℕ)) (m : SpanMap) (bl
   pub from_end : (i j : ℕ) (es : List Rectangle) → block.first.col + block.size.width ≤ j → RunsFrom axis entity g m block (i + 1) block.first.col es → RunsFrom axis entity g m block i j es
   from_end i j es wide so_far = record {
     sorted = so_far.sorted;
-    from = all_then {Q = λ (e : Rectangle). Before i j e.first → ⊥} (λ e never h. never (next_row i j block.first.col e.first h)) es so_far.from;
+    from = all_then {Q = λ (e : Rectangle). IsBefore e.first (place i j) → ⊥} (λ e never h. never (next_row i j block.first.col e.first h)) es so_far.from;
     inside = so_far.inside;
     each = so_far.each;
     all = λ p n run at never. so_far.all p n run at (λ h. never (in_row i j block.first.col p at.left (omega (arith, at.right, wide)) h));
@@ -34,7 +34,7 @@ module _ (axis : Axis) (entity : Entity) (g : Grid (List ℕ)) (m : SpanMap) (bl
   pub from_first : (i : ℕ) (es : List Rectangle) → i ≤ block.first.row → RunsFrom axis entity g m block i block.first.col es → RunsFrom axis entity g m block 0 0 es
   from_first i es high so_far = record {
     sorted = so_far.sorted;
-    from = all_then {Q = λ (e : Rectangle). Before 0 0 e.first → ⊥} (λ e never h. none_before e.first h) es so_far.from;
+    from = all_then {Q = λ (e : Rectangle). IsBefore e.first (place 0 0) → ⊥} (λ e never h. before_first e.first h) es so_far.from;
     inside = so_far.inside;
     each = so_far.each;
     all = λ p n run at never. so_far.all p n run at (λ h. elim h [ inl above ↦ omega (arith, above, high, at.top) | inr left ↦ omega (arith, left.1, at.left) ]);
@@ -42,15 +42,15 @@ module _ (axis : Axis) (entity : Entity) (g : Grid (List ℕ)) (m : SpanMap) (bl
 
   -- where the entity names no cell beside the block, they are all of its runs
   pub all_listed : ((p : Position) → IsNamed entity g p → In block p) → (es : List Rectangle) → RunsFrom axis entity g m block 0 0 es → RunsOf axis entity g m es
-  all_listed within es listed = record { sorted = listed.sorted; each = listed.each; all = λ p n run. listed.all p n run (within p (begins_named axis entity g m p n run)) (none_before p) }
+  all_listed within es listed = record { sorted = listed.sorted; each = listed.each; all = λ p n run. listed.all p n run (within p (begins_named axis entity g m p n run)) (before_first p) }
 
   module _ (i j : ℕ) (es : List Rectangle) (so_far : RunsFrom axis entity g m block i (j + 1) es) where
-    still_from : AllByRecursion (λ (e : Rectangle). Before i j e.first → ⊥) es
-    still_from = all_then {Q = λ (e : Rectangle). Before i j e.first → ⊥} (λ e never h. never (one_more i j e.first h)) es so_far.from
+    still_from : AllByRecursion (λ (e : Rectangle). IsBefore e.first (place i j) → ⊥) es
+    still_from = all_then {Q = λ (e : Rectangle). IsBefore e.first (place i j) → ⊥} (λ e never h. never (before_more i j e.first h)) es so_far.from
 
     -- a run that begins from the place on begins after it, where it doesn't begin at it
-    begins_after : (p : Position) → p ≢ place i j → (Before i j p → ⊥) → Before i (j + 1) p → ⊥
-    begins_after p other never h = elim (split_last i j p h) [ inl b ↦ never b | inr e ↦ other e ]
+    begins_after : (p : Position) → p ≢ place i j → (IsBefore p (place i j) → ⊥) → IsBefore p (place i (j + 1)) → ⊥
+    begins_after p other never h = elim (before_or_at i j p h) [ inl b ↦ never b | inr e ↦ other e ]
 
     -- no run begins at the place
     pub none_put : (many : ℕ) → many ≤ 1 → RunAt axis entity g m (place i j) many → RunsFrom axis entity g m block i j es

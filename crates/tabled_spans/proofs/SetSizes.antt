@@ -1,7 +1,7 @@
 -- What a map has after sizes are set at once, and after one more of them.
 use Rattle.tabled_grid.proofs.SpanMaps.{one_cell}
 use Rattle.tabled_grid.specs.Spans as spans
-use Rattle.tabled_spans.proofs.Common.{[], ◌∙◌, ◌∷◌, ◌≡◌, ◌≤◌, AllByRecursion, AreSorted, Axis, Below, Bool, IsSizeAt, List, None, Option, Position, Rectangle, Size, Some, SpanMap, T, ap, ap₂, cases_Bool, cases_place, cond, eq_by_cmp, equal, false, find, find-put, find_at, get, get-insert, get-remove, halves, if◌then◌else◌, inl, inr, is_eq, is_sorted, is_sorted-put, is_span, none-some, none_below, pairs, position_cmp, positions_exact, positions_total, put, rectangle, refl, resized, same_Some, same_map, size_at, size_at-none, size_at-some, sized, span-true, subst, sym, tied, true, untied, unwrap_or, with_size, with_sizes, with_span, ℕ}
+use Rattle.tabled_spans.proofs.Common.{[], ◌∙◌, ◌∷◌, ◌≡◌, ◌≤◌, AllByRecursion, AreSorted, Axis, Below, Bool, HasArea, List, None, Option, Position, Rectangle, Size, Some, SpanMap, T, ap, ap₂, cases_Bool, cases_place, cond, eq_by_cmp, equal, false, find, find-put, find_at, get, get-insert, get-remove, halves, if◌then◌else◌, inl, inr, is_eq, is_sorted, is_sorted-put, is_span, none-some, none_below, pairs, position_cmp, positions_exact, positions_total, put, rectangle, refl, resized, same_Some, same_map, size_at, size_at-none, size_at-some, sized, span-true, subst, sym, tied, true, untied, unwrap_or, with_size, with_sizes, with_span, ℕ}
 use Rattle.tabled_spans.proofs.SpanChanges.{span-is}
 
 -- what a map has at a place, after a size is set there, or none
@@ -56,10 +56,10 @@ found_in P (e ∷ es) all p s is = elim (cases_place p e.first) [
 ]
 
 -- the size at a place, among those that are set
-pub size-set : (m : SpanMap) (es : List Rectangle) (a : Position) (size : Size) → AreSorted es → AllByRecursion IsSizeAt es → find_at a es ≡ Some size → size_at (with_sizes m es) a ≡ size
+pub size-set : (m : SpanMap) (es : List Rectangle) (a : Position) (size : Size) → AreSorted es → AllByRecursion HasArea es → find_at a es ≡ Some size → size_at (with_sizes m es) a ≡ size
 size-set m es a size up full found =
     let has = get-with_sizes es m a up ∙ ap (λ (o : Option Size). set_or o (get m a)) found in
-    let least = found_in IsSizeAt es full a size found in
+    let least = found_in HasArea es full a size found in
     elim (cases_Bool (is_span size)) [
       | inl t ↦ size_at-some (with_sizes m es) a size (has ∙ ap (λ (b : Bool). if b then Some size else None) t)
       | inr f ↦ size_at-none (with_sizes m es) a (has ∙ ap (λ (b : Bool). if b then Some size else None) f) ∙ sym (one_cell size least.height least.width f)

@@ -1,10 +1,10 @@
 -- Tails of runs: the lengths that are carried from each cell to the one before it.
-use Rattle.tabled_spans.proofs.Common.{◌+◌, ◌-◌, ◌<◌, ◌∙◌, ◌≡◌, ◌≢◌, ◌≤◌, ◌⊎◌, AreTails, Axis, Before, Columns, Entity, Grid, In, IsBand, IsTail, Joins, List, Position, Rectangle, Rows, SpanMap, ap, ap₂, arith, cases_lt, cases_place, common_steps, further, get_or-replicate, get_or-set_other, get_or-set_same, inl, inr, length-replicate, length-set, line_of, place, refl, replicate, slice_index, slice_set, subst, suc, sym, zero, ℕ}
-use Rattle.tabled_spans.proofs.RunLists.{in_row, next_row, one_more, split_last}
+use Rattle.tabled_spans.proofs.Common.{◌+◌, ◌-◌, ◌<◌, ◌∙◌, ◌≡◌, ◌≢◌, ◌≤◌, ◌⊎◌, AreTails, Axis, IsBefore, Columns, Entity, Grid, In, IsBand, IsTail, Joins, List, Position, Rectangle, Rows, SpanMap, ap, ap₂, arith, before_more, before_or_at, cases_lt, cases_place, common_steps, further, get_or-replicate, get_or-set_other, get_or-set_same, inl, inr, length-replicate, length-set, line_of, place, refl, replicate, slice_index, slice_set, subst, suc, sym, zero, ℕ}
+use Rattle.tabled_spans.proofs.RunLists.{in_row, next_row}
 use Rattle.tabled_spans.proofs.Runs.{further_back, further_more, further_none, same_last}
 
 -- the cell after a place along the axis comes not before the next place, row by row
-next_after : (axis : Axis) (p : Position) → Before p.row (p.col + 1) (further axis 1 p) → ⊥
+next_after : (axis : Axis) (p : Position) → IsBefore (further axis 1 p) (place p.row (p.col + 1)) → ⊥
 next_after Rows p (inl h) = omega (arith, h)
 next_after Rows p (inr h) = omega (arith, h.0)
 next_after Columns p (inl h) = omega (arith, h)
@@ -68,8 +68,8 @@ module _ (axis : Axis) (entity : Entity) (g : Grid (List ℕ)) (m : SpanMap) whe
       pub tail_here : IsTail axis entity g m p (slice_index lengths (p.col - block.first.col))
       tail_here = so_far.each p inside (inr (refl, omega arith)) (λ within h. next_after axis p h)
 
-      tail_still : (r : Position) → In block r → Before p.row p.col r → (In block (further axis 1 r) → Before p.row p.col (further axis 1 r) → ⊥) → (further axis 1 r ≡ p → ⊥) → IsTail axis entity g m r (slice_index lengths (r.col - block.first.col))
-      tail_still r within before alone other = so_far.each r within (one_more p.row p.col r before) (λ next h. elim (split_last p.row p.col (further axis 1 r) h) [ inl b ↦ alone next b | inr e ↦ other e ])
+      tail_still : (r : Position) → In block r → IsBefore r p → (In block (further axis 1 r) → IsBefore (further axis 1 r) p → ⊥) → (further axis 1 r ≡ p → ⊥) → IsTail axis entity g m r (slice_index lengths (r.col - block.first.col))
+      tail_still r within before alone other = so_far.each r within (before_more p.row p.col r before) (λ next h. elim (before_or_at p.row p.col (further axis 1 r) h) [ inl b ↦ alone next b | inr e ↦ other e ])
 
       -- where no place of the block is before it
       pub tails_first : line_of axis p ≡ line_of axis block.first → AreTails axis entity g m block p.row p.col lengths
@@ -82,7 +82,7 @@ module _ (axis : Axis) (entity : Entity) (g : Grid (List ℕ)) (m : SpanMap) whe
         each = λ r within before alone. by r within before alone (cases_place r last);
       }
         where
-          same_column : (x : Axis) (r : Position) → further x 1 last ≡ p → In block r → Before p.row p.col r → r.col - block.first.col ≡ last.col - block.first.col → (In block (further x 1 r) → Before p.row p.col (further x 1 r) → ⊥) → further x 1 r ≡ p
+          same_column : (x : Axis) (r : Position) → further x 1 last ≡ p → In block r → IsBefore r p → r.col - block.first.col ≡ last.col - block.first.col → (In block (further x 1 r) → IsBefore (further x 1 r) p → ⊥) → further x 1 r ≡ p
           same_column Rows r e within (inl above) same alone = either (cases_lt (r.row + 1) p.row)
             where
               either : (r.row + 1 < p.row) ⊎ (p.row ≤ r.row + 1) → further Rows 1 r ≡ p
@@ -92,7 +92,7 @@ module _ (axis : Axis) (entity : Entity) (g : Grid (List ℕ)) (m : SpanMap) whe
           same_column Columns r e within (inl above) same alone = absurd (alone (record { top = within.top; bottom = within.bottom; left = omega (arith, within.left); right = omega (arith, same, within.left, here.left, ap (λ (y : Position). y.col) e, inside.right) }) (inl above))
           same_column Columns r e within (inr h) same alone = ap₂ place h.0 (omega (arith, same, within.left, here.left, ap (λ (y : Position). y.col) e))
 
-          by : (r : Position) → In block r → Before p.row p.col r → (In block (further axis 1 r) → Before p.row p.col (further axis 1 r) → ⊥) → (r ≡ last) ⊎ (r ≢ last) → IsTail axis entity g m r (slice_index (slice_set lengths (last.col - block.first.col) many) (r.col - block.first.col))
+          by : (r : Position) → In block r → IsBefore r p → (In block (further axis 1 r) → IsBefore (further axis 1 r) p → ⊥) → (r ≡ last) ⊎ (r ≢ last) → IsTail axis entity g m r (slice_index (slice_set lengths (last.col - block.first.col) many) (r.col - block.first.col))
           by r within before alone (inl e) = subst (λ (x : Position). IsTail axis entity g m x (slice_index (slice_set lengths (last.col - block.first.col) many) (x.col - block.first.col))) (sym e) (subst (IsTail axis entity g m last) (sym (get_or-set_same lengths (last.col - block.first.col) many 0 (omega (arith, here.left, here.right, so_far.size)))) tail)
           by r within before alone (inr other) =
               let apart : further axis 1 r ≢ p = λ e. other (same_last axis r last (e ∙ sym is)) in

@@ -3,22 +3,20 @@ use Rattle.std.specs.Prelude.{◌≡◌, ◌↔◌, ◌+◌, ◌-◌, ◌<◌, �
 use Rattle.std.specs.FinMap.{find}
 use Rattle.std.specs.List.{AllByRecursion}
 use Rattle.tabled_grid.specs.Grid.{Grid}
-use Rattle.tabled_grid.specs.Midway.{In}
 use Rattle.tabled_grid.specs.Spans.{AreSorted, SpanMap, pairs, position_cmp, rectangles}
 use Rattle.tabled_grid.specs.declared.config.entity.Entity.{Entity}
 use Rattle.tabled_grid.specs.declared.config.position.Position.{Position}
 use Rattle.tabled_grid.specs.declared.config.rectangle.Rectangle.{Rectangle}
 use Rattle.tabled_grid.specs.declared.records.axis.Axis.{Axis}
 use Rattle.tabled_spans.specs.Runs.{IsNamed, IsRun, Joins, further, size_of_run}
+use Rattle.tabled_grid.specs.Entity.{place}
+use Rattle.tabled_grid.specs.Order.{IsBefore}
+use Rattle.tabled_grid.specs.Rectangles.{In}
 
 -- a run of n cells begins at the place, or none where that is below 2
 pub record RunAt (axis : Axis) (e : Entity) (g : Grid (List ℕ)) (m : SpanMap) (p : Position) (many : ℕ) : Type 0 where
   pub is : 2 ≤ many → IsRun axis e g m p many
   pub none : many ≤ 1 → (n : ℕ) → IsRun axis e g m p n → ⊥
-
--- the place comes before another, row by row
-abbrev pub Before : ℕ → ℕ → Position → Type 0
-Before i j p = (p.row < i) ⊎ ((p.row ≡ i) × (p.col < j))
 
 -- the anchor and the size of a run
 abbrev pub IsOfRun : Axis → Entity → Grid (List ℕ) → SpanMap → Rectangle → Type 0
@@ -33,10 +31,10 @@ pub record RunsOf (axis : Axis) (e : Entity) (g : Grid (List ℕ)) (m : SpanMap)
 -- the anchors and sizes of all runs that begin in a block, at a place or after it, row by row
 pub record RunsFrom (axis : Axis) (e : Entity) (g : Grid (List ℕ)) (m : SpanMap) (block : Rectangle) (i j : ℕ) (sizes : List Rectangle) : Type 0 where
   pub sorted : AreSorted sizes
-  pub from : AllByRecursion (λ (anchor : Rectangle). Before i j anchor.first → ⊥) sizes
+  pub from : AllByRecursion (λ (anchor : Rectangle). IsBefore anchor.first (place i j) → ⊥) sizes
   pub inside : AllByRecursion (λ (anchor : Rectangle). In block anchor.first) sizes
   pub each : AllByRecursion (IsOfRun axis e g m) sizes
-  pub all : (p : Position) (many : ℕ) → IsRun axis e g m p many → In block p → (Before i j p → ⊥) → find position_cmp p (pairs sizes) ≡ Some (size_of_run axis many)
+  pub all : (p : Position) (many : ℕ) → IsRun axis e g m p many → In block p → (IsBefore p (place i j) → ⊥) → find position_cmp p (pairs sizes) ≡ Some (size_of_run axis many)
 
 -- the cell and those after it along the axis, as far as each joins the next one
 pub record IsTail (axis : Axis) (e : Entity) (g : Grid (List ℕ)) (m : SpanMap) (p : Position) (many : ℕ) : Type 0 where
@@ -57,7 +55,7 @@ pub record IsBand (axis : Axis) (e : Entity) (g : Grid (List ℕ)) (block : Rect
 -- the length of the tail of each cell of a block before a place, row by row, whose next one isn't before it, at the cell's column
 pub record AreTails (axis : Axis) (e : Entity) (g : Grid (List ℕ)) (m : SpanMap) (block : Rectangle) (i j : ℕ) (lengths : List ℕ) : Type 0 where
   pub size : length lengths ≡ block.size.width
-  pub each : (p : Position) → In block p → Before i j p → (In block (further axis 1 p) → Before i j (further axis 1 p) → ⊥) → IsTail axis e g m p (slice_index lengths (p.col - block.first.col))
+  pub each : (p : Position) → In block p → IsBefore p (place i j) → (In block (further axis 1 p) → IsBefore (further axis 1 p) (place i j) → ⊥) → IsTail axis e g m p (slice_index lengths (p.col - block.first.col))
 
 -- all but the first n anchors stand in the rows below one
 pub record StandBelow (m : SpanMap) (row many : ℕ) : Type 0 where

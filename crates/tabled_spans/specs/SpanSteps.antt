@@ -1,7 +1,7 @@
 -- What a span over visible cells changes at one place after another.
 use Rattle.std.specs.Prelude.{◌≡◌, ◌+◌, ◌-◌, ◌<◌, ◌≤◌, ℕ, min, List, [], ◌∷◌, if◌then◌else◌}
 use Rattle.tabled_grid.specs.Covers.{Cover, IsCoverOf}
-use Rattle.tabled_grid.specs.Midway.{In}
+use Rattle.tabled_grid.specs.Rectangles.{In}
 use Rattle.tabled_grid.specs.Spans.{SpanMap, rectangle, size_at}
 use Rattle.tabled_grid.specs.declared.config.position.Position.{Position}
 use Rattle.tabled_grid.specs.declared.config.rectangle.Rectangle.{Rectangle}

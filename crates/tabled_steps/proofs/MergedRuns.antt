@@ -1,7 +1,7 @@
 -- The runs that are listed are those that are merged.
 use Rattle.tabled_steps.proofs.Common.{◌++◌, ◌+◌, ◌-◌, ◌<◌, ◌∙◌, ◌≡◌, ◌≤◌, ◌⊎◌, Axis, Bool, Columns, Entity, Grid, IsInside, IsNamed, IsRun, Joins, List, MergesRuns, None, Option, Position, Rectangle, Rows, RunAt, RunsFrom, RunsOf, Some, SpanMap, and_from, and_parts, ap, append_assoc, ap₂, arith, block-is, cond, false, false≢true, flat_map, flat_map-append, further, get, inl, inr, lt-ltb, ltb-true, map, none-some, option_eq, place, places, range_with_len, rectangle, refl, same_Some, same_map, size_of_run, subst, suc, sym, true, with_sizes, zero, ℕ}
 use Rattle.std.specs.Str.{bytes_eq}
-use Rattle.tabled_grid.specs.Midway.{In}
+use Rattle.tabled_grid.specs.Rectangles.{In}
 use Rattle.tabled_grid.specs.Spans.{sized}
 use Rattle.std.proofs.lemmas.Slice.Eq.{bytes_eq-Decides}
 use Rattle.tabled_spans.proofs.RunLists.{runs_merged}

@@ -6,7 +6,8 @@ ghost use Rattle.tabled_grid.specs.Entity.{place};
 ghost use Rattle.tabled_grid.specs.Fitting.{Fits, keep_fitting};
 ghost use Rattle.tabled_grid.specs.Spans.{rectangle, rectangles, sized};
 ghost use Rattle.tabled_grid.specs.declared.config.rectangle.Rectangle.{Rectangle};
-ghost use Rattle.tabled_carry.specs.Images.{Carries, HasArea, carried};
+ghost use Rattle.tabled_carry.specs.Images.{Carries, carried};
+ghost use Rattle.tabled_grid.specs.Rectangles.{HasArea};
 
 use crate::geometry::changes;
 use std::alloc::{AllocError, Global};

@@ -1,8 +1,7 @@
 //! Merged cells as rectangles: asked of where they lie, and made larger.
 
 ghost use Rattle.std.specs.Prelude.{◌≡◌, ◌&&◌, OnErr, not};
-ghost use Rattle.tabled_grid.specs.Anchors.{lies_inside, meets};
-ghost use Rattle.tabled_grid.specs.Rectangles.{holds};
+ghost use Rattle.tabled_grid.specs.Rectangles.{holds, lies_inside, meets};
 ghost use Rattle.tabled_grid.specs.Spans.{is_cell};
 
 use std::alloc::{AllocError, Global};

@@ -1,11 +1,12 @@
-//! Sorted lists of anchors: which are hidden, and whether their rectangles lie well.
+//! Sorted lists of anchors: which are hidden, and whether their rectangles fit.
 
 ghost use Rattle.std.specs.Prelude.{false, true, ◌≡◌, ◌≤◌, ◌∷◌, ◌++◌, IfOk, OnOk, drop, length, map, nat_lt, not, take};
 ghost use Rattle.std.specs.List.{AllWithin, filter, list_all, list_any};
 ghost use Rattle.std.specs.declared.cmp.Ordering.TheVariants.{Less};
 ghost use Rattle.std.specs.List.Sorted.{IsBinarySearchResult, IsSearchInRange};
-ghost use Rattle.tabled_grid.specs.Anchors.{are_apart, dropped, is_hidden_in, is_past, lie_well, marked, meets, unless_held, anchor_of, with_sizes_in, without_first_at};
-ghost use Rattle.tabled_grid.specs.Rectangles.{heights_in, holds, reaches_across, reaches_down, widths_in};
+ghost use Rattle.tabled_grid.specs.Anchors.{dropped, is_hidden_in, is_past, marked, unless_held, anchor_of, with_sizes_in, without_first_at};
+ghost use Rattle.tabled_grid.specs.Fitting.{AreApart, all_fit};
+ghost use Rattle.tabled_grid.specs.Rectangles.{heights_in, holds, meets, reaches_across, reaches_down, widths_in};
 ghost use Rattle.tabled_grid.specs.Spans.{AreAnchors, AreSorted, position_cmp, rectangle};
 ghost use Rattle.tabled_grid.specs.declared.config.rectangle.Rectangle.{Rectangle};
 
@@ -179,7 +180,7 @@ fn drop_empty(anchors: &mut Vec<Rectangle>)
 fn is_apart(anchors: &[Rectangle], first: usize, from: Rectangle) -> bool
     requires within { first ≤ length anchors.now }
     requires anchors { AreAnchors (from ∷ drop first anchors.now) }
-    requires apart { are_apart (drop first anchors.now) ≡ true }
+    requires apart { AreApart (drop first anchors.now) }
     ensures { result ≡ list_all (λ (e : Rectangle). not (meets from e)) (drop first anchors.now) }
 {
     let mut k = first;
@@ -200,7 +201,7 @@ fn is_apart(anchors: &[Rectangle], first: usize, from: Rectangle) -> bool
 /// rectangle, and those left of the rectangle but the nearest, where it is left of it.
 fn beyond(anchors: &[Rectangle], from: Rectangle, pos: Position) -> usize
     requires anchors { AreAnchors (rectangle pos from.size ∷ anchors.now) }
-    requires apart { are_apart anchors.now ≡ true }
+    requires apart { AreApart anchors.now }
     ensures within { result ≤ length anchors.now }
     ensures apart { list_all (λ (e : Rectangle). not (meets from e)) (take result anchors.now) ≡ true }
 {
@@ -238,7 +239,7 @@ fn count_before(anchors: &[Rectangle], pos: Position) -> usize
 /// Says whether all rectangles lie inside a table and no two of them share a cell.
 pub(super) fn fit(anchors: &[Rectangle], rows: usize, columns: usize) -> bool
     requires { AreAnchors anchors.now }
-    ensures { result ≡ lie_well rows columns anchors.now }
+    ensures { result ≡ all_fit rows columns anchors.now }
 {
     for first in (0..anchors.len()).rev() {
         let anchor = anchors[first];

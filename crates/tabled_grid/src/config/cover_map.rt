@@ -5,7 +5,7 @@ ghost use Rattle.tabled_grid.specs.CellCounts.{CountsBlock, IsFew, IsMany, count
 ghost use Rattle.tabled_grid.specs.Covers.{IsCoverOf, area, hider_counts};
 ghost use Rattle.tabled_grid.specs.Entity.{place};
 ghost use Rattle.tabled_grid.specs.Hidden.{is_hidden};
-ghost use Rattle.tabled_grid.specs.Midway.{In};
+ghost use Rattle.tabled_grid.specs.Rectangles.{In};
 ghost use Rattle.tabled_grid.specs.Spans.{AreSorted, SpanMap, rectangle, rectangles, size_at, sized, with_size};
 
 use crate::config::hiders::{count_each, follow};

@@ -3,7 +3,7 @@
 ghost use Rattle.std.specs.Prelude.{◌≡◌, ◌↔◌, ◌+◌, ◌<◌, ◌≤◌, true};
 ghost use Rattle.std.specs.Iterator.{YieldsFirst, item_count};
 ghost use Rattle.tabled_grid.specs.Entity.{column_named, inside, lines_named, names, places_in, row_named};
-ghost use Rattle.tabled_grid.specs.Midway.{In};
+ghost use Rattle.tabled_grid.specs.Rectangles.{In};
 ghost use Rattle.tabled_grid.specs.declared.config.position.Position.{Position};
 
 use crate::config::position::Position;

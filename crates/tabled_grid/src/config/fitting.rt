@@ -2,7 +2,7 @@
 
 ghost use Rattle.std.specs.Prelude.{◌≡◌, ◌∷◌, ◌↔◌, IfOk, IsOk, IsTrue, OnErr, OnOk, length, not};
 ghost use Rattle.std.specs.List.{list_all};
-ghost use Rattle.tabled_grid.specs.Anchors.{meets};
+ghost use Rattle.tabled_grid.specs.Rectangles.{meets};
 ghost use Rattle.tabled_grid.specs.Fitting.{Fits, fitting, keep_fitting, with_met};
 ghost use Rattle.tabled_grid.specs.Spans.{AreSorted};
 ghost use Rattle.tabled_grid.specs.declared.config.rectangle.Rectangle.{Rectangle};

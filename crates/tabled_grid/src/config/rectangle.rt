@@ -16,8 +16,7 @@ pub struct Rectangle {
 }
 
 impl Rectangle {
-    ghost use Rattle.tabled_grid.specs.Anchors.{lies_inside, meets};
-    ghost use Rattle.tabled_grid.specs.Rectangles.{holds};
+    ghost use Rattle.tabled_grid.specs.Rectangles.{holds, lies_inside, meets};
 
     /// Says whether this rectangle holds a place.
     pub fn holds(self, pos: Position) -> bool

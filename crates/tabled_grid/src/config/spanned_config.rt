@@ -3,10 +3,10 @@
 ghost use Rattle.std.specs.Prelude.{◌≡◌, ◌<◌, ◌≤◌, ◌↔◌, ◌⊎◌, IfOk, IsOk, IsSome, IsTrue, OnErr, OnOk, SomeIff};
 ghost use Rattle.std.specs.List.{AllByRecursion};
 ghost use Rattle.tabled_grid.specs.Axis.{with_span};
-ghost use Rattle.tabled_grid.specs.Rectangles.{column_spans, is_covered_across, is_covered_down, row_spans};
+ghost use Rattle.tabled_grid.specs.Rectangles.{HasArea, column_spans, is_covered_across, is_covered_down, row_spans};
 ghost use Rattle.tabled_grid.specs.Hidden.{drop_hidden, is_visible};
 ghost use Rattle.tabled_grid.specs.Shifts.{is_crossed, shifted};
-ghost use Rattle.tabled_grid.specs.Spans.{AreAnchors, AreSorted, IsSizeAt, IsSpanSize, empty, get, insert, map_of, rectangles, remove, size_at, sized, with_column_span, with_row_span, with_size, with_sizes};
+ghost use Rattle.tabled_grid.specs.Spans.{AreAnchors, AreSorted, IsSpan, empty, get, insert, map_of, rectangles, remove, size_at, sized, with_column_span, with_row_span, with_size, with_sizes};
 
 use crate::config::position::Position;
 use crate::config::rectangle::Rectangle;
@@ -160,7 +160,7 @@ impl SpannedConfig {
     /// Of this project.
     pub fn set_sizes(&mut self, alloc: Global, sizes: &[Rectangle]) -> Result<(), AllocError>
         requires sorted { AreSorted sizes.now }
-        requires each { AllByRecursion IsSizeAt sizes.now }
+        requires each { AllByRecursion HasArea sizes.now }
         ensures ok { OnOk result (self.new ≡ with_sizes self.old sizes.now) }
         ensures err { OnErr result (self.new ≡ self.old) }
     {
@@ -294,7 +294,7 @@ impl SpannedConfig {
 
     /// Puts an anchor of a size at a place. Memory is taken only for a new one. Refused, it changes nothing.
     fn insert(&mut self, pos: Position, size: Size) -> Result<(), AllocError>
-        requires { IsSpanSize size }
+        requires { IsSpan size }
         ensures ok { OnOk result (self.new ≡ insert self.old pos size) }
         ensures err { OnErr result (self.new ≡ self.old) }
         ensures promised { IsSome (get self.old pos) → IsOk result }

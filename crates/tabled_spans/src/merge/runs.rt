@@ -5,7 +5,7 @@ ghost use Rattle.std.specs.Option.{IfSome};
 ghost use Rattle.tabled_grid.specs.Axis.{line_of};
 ghost use Rattle.tabled_grid.specs.Covers.{IsCoverOf};
 ghost use Rattle.tabled_grid.specs.Grid.{IsInside, map_grid};
-ghost use Rattle.tabled_grid.specs.Midway.{In};
+ghost use Rattle.tabled_grid.specs.Rectangles.{In};
 ghost use Rattle.tabled_grid.specs.declared.config.entity.Entity.{Entity};
 ghost use Rattle.tabled_grid.specs.declared.config.position.Position.{Position};
 ghost use Rattle.tabled_spans.specs.RunSteps.{AreTails, IsBand, RunAt, RunsFrom, RunsOf, StandBelow};

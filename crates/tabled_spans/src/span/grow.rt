@@ -4,8 +4,8 @@ ghost use Rattle.std.specs.Prelude.{◌≡◌, ◌+◌, ◌<◌, ◌≤◌, ◌+
 ghost use Rattle.std.specs.List.{AllByRecursion};
 ghost use Rattle.tabled_grid.specs.Axis.{line_of, lines_in};
 ghost use Rattle.tabled_grid.specs.Covers.{IsCoverOf};
-ghost use Rattle.tabled_grid.specs.Midway.{In};
-ghost use Rattle.tabled_grid.specs.Spans.{AreSorted, IsSizeAt, SpanMap, with_sizes};
+ghost use Rattle.tabled_grid.specs.Rectangles.{HasArea, In};
+ghost use Rattle.tabled_grid.specs.Spans.{AreSorted, SpanMap, with_sizes};
 ghost use Rattle.tabled_grid.specs.declared.config.position.Position.{Position};
 ghost use Rattle.tabled_spans.specs.Spanned.{SpanTakesNoMemory, are_visible, grown, grown_on, with_visible_span};
 ghost use Rattle.tabled_spans.specs.SpanSteps.{ForEachCovered, InReach, change_at};
@@ -56,7 +56,7 @@ fn grow_at(
     requires within { line_of axis pos + many ≤ line_of axis cover.old.block.first + lines_in axis cover.old.block.size }
     requires end { line_of axis pos + many < 2 ^ 64 }
     ensures ok { ForEachCovered cover.old cfg.now pos (λ m. OnOk result (changes.new.items ≡ changes.old.items ++ change_at axis m pos many)) }
-    ensures full { AllByRecursion IsSizeAt changes.old.items → OnOk result (AllByRecursion IsSizeAt changes.new.items) }
+    ensures full { AllByRecursion HasArea changes.old.items → OnOk result (AllByRecursion HasArea changes.new.items) }
     ensures block { cover.new.block ≡ cover.old.block }
     ensures cover { ForEachCovered cover.old cfg.now pos (λ m. OnOk result (IsCoverOf (with_sizes m (change_at axis m pos many)) cover.new)) }
 {
@@ -98,7 +98,7 @@ fn changes(
 ) -> Result<Vec<Rectangle>, AllocError>
     requires { 1 ≤ size }
     ensures sorted { IfOk result (λ changes. AreSorted changes.items) }
-    ensures full { IfOk result (λ changes. AllByRecursion IsSizeAt changes.items) }
+    ensures full { IfOk result (λ changes. AllByRecursion HasArea changes.items) }
     ensures sizes { IfOk result (λ changes. with_sizes cfg.now changes.items ≡ grown_on axis size entity rows columns cfg.now) }
 {
     let count = axis.count_of(rows, columns);

@@ -3,7 +3,8 @@
 ghost use Rattle.std.specs.Prelude.{◌≡◌, ◌+◌, ◌<◌, ◌≤◌, ◌^◌, ℕ, [], IfOk, IsOk, OnErr, OnOk};
 ghost use Rattle.std.specs.List.{AllByRecursion};
 ghost use Rattle.tabled_grid.specs.Entity.{inside};
-ghost use Rattle.tabled_grid.specs.Spans.{AreSorted, IsSizeAt, with_sizes};
+ghost use Rattle.tabled_grid.specs.Spans.{AreSorted, with_sizes};
+ghost use Rattle.tabled_grid.specs.Rectangles.{HasArea};
 ghost use Rattle.tabled_grid.specs.declared.config.position.Position.{Position};
 ghost use Rattle.tabled_grid.specs.Grid.{IsInside};
 ghost use Rattle.tabled_options.specs.Writes.{FirstWritten, SameOrFirstWrites, Written};
@@ -24,10 +25,10 @@ fn put_span(
     many: usize,
 ) -> Result<(), AllocError>
     requires sorted { AreSorted changes.old.items }
-    requires full { AllByRecursion IsSizeAt changes.old.items }
+    requires full { AllByRecursion HasArea changes.old.items }
     requires some { 1 ≤ many }
     ensures sorted { OnOk result (AreSorted changes.new.items) }
-    ensures full { OnOk result (AllByRecursion IsSizeAt changes.new.items) }
+    ensures full { OnOk result (AllByRecursion HasArea changes.new.items) }
     ensures sizes { OnOk result (with_sizes cfg.now changes.new.items ≡ with_span axis (with_sizes cfg.now changes.old.items) pos many) }
 {
     match search(changes, pos) {
@@ -54,7 +55,7 @@ fn changes(
     columns: usize,
 ) -> Result<Vec<Rectangle>, AllocError>
     ensures sorted { IfOk result (λ changes. AreSorted changes.items) }
-    ensures full { IfOk result (λ changes. AllByRecursion IsSizeAt changes.items) }
+    ensures full { IfOk result (λ changes. AllByRecursion HasArea changes.items) }
     ensures sizes { IfOk result (λ changes. with_sizes cfg.now changes.items ≡ pulled_on axis back entity rows columns cfg.now) }
 {
     let count = axis.count_of(rows, columns);

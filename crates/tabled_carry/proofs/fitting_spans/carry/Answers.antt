@@ -1,4 +1,4 @@
-use Rattle.tabled_carry.proofs.Common.{[], ◌++◌, ◌+◌, ◌<◌, ◌∙◌, ◌≡◌, ◌≤◌, AreAnchors, Carries, List, Rectangle, ap, arith, drop, get_or, length, map_of, none-some, subst, sym, take, take_all, ℕ}
+use Rattle.tabled_carry.proofs.Common.{[], ◌++◌, ◌+◌, ◌<◌, ◌∙◌, ◌≡◌, ◌≤◌, AreAnchors, Carries, LiesInside, List, Rectangle, ap, arith, drop, get_or, length, map_of, none-some, subst, sym, take, take_all, ℕ}
 use Rattle.std.proofs.Math.Seq.{take-append_seam}
 use Rattle.tabled_carry.proofs.Carrying.{Images, images-anchors, images-make, images-sorted, next-inside, next-none, next-some, rising-sorted}
 use Rattle.tabled_carry.proofs.InPlace.{underway-none, underway-some}
@@ -13,18 +13,18 @@ module _ (g : _) (c : After-index g) where
   read : get_or c.args.anchors.now.items c.loop-index.index c.index.result.now ≡ c.index.result.now
   read = sym (c.loop-index.invariant.rest c.loop-index.index c.index.result.now (omega arith)) ∙ sym c.index.ensures
 
-  inside : (c.index.result.now.first.row + c.index.result.now.size.height ≤ c.args.rows) × (c.index.result.now.first.col + c.index.result.now.size.width ≤ c.args.columns)
-  inside = subst (λ (e : Rectangle). (e.first.row + e.size.height ≤ c.args.rows) × (e.first.col + e.size.width ≤ c.args.columns)) read (next-inside (g.M.Moves.places c.args.moves.now) c.args.anchors.now.items [] c.loop-index.index c.args.rows c.args.columns c.index.result.now c.requires.anchors c.requires.fits here)
+  inside : LiesInside c.args.rows c.args.columns c.index.result.now
+  inside = subst (LiesInside c.args.rows c.args.columns) read (next-inside (g.M.Moves.places c.args.moves.now) c.args.anchors.now.items [] c.loop-index.index c.args.rows c.args.columns c.index.result.now c.requires.anchors c.requires.fits here)
 
 pub new_rectangle-requires-clause-bottom : goal.new_rectangle-requires-clause-bottom
 new_rectangle-requires-clause-bottom g c =
     let before = (goal.at.new_rectangle-requires-clause-bottom g c).After-index in
-    omega (arith, (inside g before).0, c.ranges.rows.fits)
+    omega (arith, (inside g before).bottom, c.ranges.rows.fits)
 
 pub new_rectangle-requires-clause-right : goal.new_rectangle-requires-clause-right
 new_rectangle-requires-clause-right g c =
     let before = (goal.at.new_rectangle-requires-clause-right g c).After-index in
-    omega (arith, (inside g before).1, c.ranges.columns.fits)
+    omega (arith, (inside g before).right, c.ranges.columns.fits)
 
 pub loop-index-preserved : goal.loop-index-preserved
 loop-index-preserved g c =

@@ -1,5 +1,5 @@
-use Rattle.tabled_carry.proofs.Free.{free_kept, kept_free}
+use Rattle.tabled_grid.proofs.Fitting.{fits-kept, kept-fits}
 use Rattle.tabled_carry.proofs.laws.fitting_rectangles_are_the_free_ones.Goals as goal
 
 pub returns : goal.returns
-returns c = λ m rows columns a s. (kept_free m rows columns a s, free_kept m rows columns a s)
+returns c = λ m rows columns e. (kept-fits rows columns m e, λ both. fits-kept rows columns m e both.0 both.1)

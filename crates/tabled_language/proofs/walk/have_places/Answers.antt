@@ -1,4 +1,4 @@
-use Rattle.tabled_language.proofs.Common.{◌<◌, ◌∙◌, ◌≡◌, All-from_recursion, BTreeMap, List, Rectangle, and_left, false, get_or, get_or_default, has_place, length, rectangle, sized, sym, take, ℕ}
+use Rattle.tabled_language.proofs.Common.{◌<◌, ◌∙◌, ◌≡◌, All-from_recursion, BTreeMap, List, Rectangle, and_left, false, get_or, get_or_default, fits_among, length, rectangle, sized, sym, take, ℕ}
 use Rattle.tabled_language.proofs.Walked.{HasWalked, IsWalked, has_walked-more, has_walked-stop, met_place, walked-here}
 use Rattle.tabled_language.proofs.walk.have_places.Goals as goal
 
@@ -31,7 +31,7 @@ returns-then-not-is_inside c =
     let e = at es k in
     elim c.then-not-is_inside.branch [
       | goal.then-not-is_inside-via-then-not-is_inside w ↦
-          let outside : has_place c.args.rows c.args.columns (take k es) e ≡ false = and_left _ _ (sym c.is_inside.ensures ∙ w.if-not-is_inside.true) in
+          let outside : fits_among c.args.rows c.args.columns (take k es) e ≡ false = and_left _ _ (sym c.is_inside.ensures ∙ w.if-not-is_inside.true) in
           sym (has_walked-stop c.args.rows c.args.columns es k e within (at-is es k within) outside)
       | goal.then-not-is_inside-via-else-not-is_inside+then-not-is_clear w ↦
           let here = walked c.args.rows c.args.columns es k c.loop-anchor.reaching c.loop-anchor.invariant within in

@@ -1,4 +1,4 @@
-use Rattle.tabled_spans.proofs.Common.{AllByRecursion, IsSizeAt, MergesRuns, across, ap, lines_in, map_grid, rules, subst, sym, with_sizes, ◌∙◌, ◌≡◌, ◌≤◌}
+use Rattle.tabled_spans.proofs.Common.{AllByRecursion, HasArea, MergesRuns, across, ap, lines_in, map_grid, rules, subst, sym, with_sizes, ◌∙◌, ◌≡◌, ◌≤◌}
 use Rattle.tabled_spans.proofs.Blocks.{named_block, neighbours, none_merged}
 use Rattle.tabled_spans.proofs.RunLists.{runs_merged, sizes_full}
 use Rattle.tabled_spans.proofs.merge.merge_runs.Goals as goal
@@ -19,7 +19,7 @@ returns-in_err-sizes-clause-promised g c = λ none.
 pub set_sizes-requires-clause-each : goal.set_sizes-requires-clause-each
 set_sizes-requires-clause-each g c =
     let texts = map_grid g.R.Cell.CellText.text_of (g.R.GridStore.grid c.args.records.now) in
-    subst (AllByRecursion IsSizeAt) (sym c.deref.ensures.value) (sizes_full c.args.axis c.args.entity texts c.args.cfg.now _ c.in_ok-sizes.ensures.each)
+    subst (AllByRecursion HasArea) (sym c.deref.ensures.value) (sizes_full c.args.axis c.args.entity texts c.args.cfg.now _ c.in_ok-sizes.ensures.each)
 
 pub returns-in_err-set_sizes-clause-promised : goal.returns-in_err-set_sizes-clause-promised
 returns-in_err-set_sizes-clause-promised g c = λ none.

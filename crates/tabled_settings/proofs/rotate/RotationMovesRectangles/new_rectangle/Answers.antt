@@ -6,8 +6,8 @@ pub returns-then-bottom-self-clause-finds : goal.returns-then-bottom-self-clause
 returns-then-bottom-self-clause-finds c = λ f carries whole.
     let inside = turned_inside c.args.self.now.rotate c.args.self.now.rows c.args.self.now.columns c.args.of f c.requires.full carries in
     let never : ⊥ = elim c.then-bottom-self.branch [
-      | goal.then-bottom-self-via-then-bottom-self w ↦ omega (arith, inside.0, w.if-bottom-self.true)
-      | goal.then-bottom-self-via-else-bottom-self+then-right-self w ↦ omega (arith, inside.1, w.if-right-self.true)
+      | goal.then-bottom-self-via-then-bottom-self w ↦ omega (arith, inside.bottom, w.if-bottom-self.true)
+      | goal.then-bottom-self-via-else-bottom-self+then-right-self w ↦ omega (arith, inside.right, w.if-right-self.true)
     ] in
     absurd never
 

@@ -1,5 +1,5 @@
 use Rattle.std.specs.Prelude.{false}
-use Rattle.tabled_spans.proofs.Common.{[], ◌<◌, ◌∙◌, ◌≡◌, AllByRecursion, AreSorted, IsSizeAt, across, ap, count_along, map_grid, subst, sym, with_sizes, ℕ}
+use Rattle.tabled_spans.proofs.Common.{[], ◌<◌, ◌∙◌, ◌≡◌, AllByRecursion, AreSorted, HasArea, across, ap, count_along, map_grid, subst, sym, with_sizes, ℕ}
 use Rattle.tabled_spans.proofs.MergeEach.{listed_merged, no_neighbours, none_in, none_merged_each, runs_full, same_lines}
 use Rattle.tabled_spans.specs.Lines.{MergesEach, is_among, is_named_by}
 use Rattle.tabled_spans.specs.declared.merge.lines.Lines.{Lines}
@@ -22,7 +22,7 @@ set_sizes-requires g c =
     let texts = map_grid g.R.Cell.CellText.text_of (g.R.GridStore.grid c.args.records.now) in
     record {
       sorted = subst AreSorted (sym c.deref.ensures.value) c.in_ok-sizes.ensures.sorted;
-      each = subst (AllByRecursion IsSizeAt) (sym c.deref.ensures.value) (runs_full c.args.axis texts (is_among c.args.axis c.in_ok-lines.lines) c.args.cfg.now c.in_ok-sizes.sizes.items c.in_ok-sizes.ensures);
+      each = subst (AllByRecursion HasArea) (sym c.deref.ensures.value) (runs_full c.args.axis texts (is_among c.args.axis c.in_ok-lines.lines) c.args.cfg.now c.in_ok-sizes.sizes.items c.in_ok-sizes.ensures);
     }
 
 pub returns-clause-ok : goal.returns-clause-ok

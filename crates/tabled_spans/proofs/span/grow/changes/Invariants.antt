@@ -1,4 +1,4 @@
-use Rattle.tabled_spans.proofs.Common.{◌++◌, ◌≡◌, AllByRecursion, AreSorted, InReach, IsCoverOf, IsSizeAt, across, count_of, grown_each, inside, length, lines_in, with_sizes}
+use Rattle.tabled_spans.proofs.Common.{◌++◌, ◌≡◌, AllByRecursion, AreSorted, HasArea, InReach, IsCoverOf, across, count_of, grown_each, inside, length, lines_in, with_sizes}
 use Rattle.tabled_spans.proofs.RisingPlaces.{ones}
 use Rattle.tabled_spans.proofs.span.grow.changes.Given as goal
 
@@ -11,7 +11,7 @@ invariant-loop-pos l =
       block : l.cover.block ≡ l.block;
       cover : IsCoverOf m l.cover;
       sorted : AreSorted (l.changes.items ++ ones l.pos-iterator);
-      full : AllByRecursion IsSizeAt l.changes.items;
+      full : AllByRecursion HasArea l.changes.items;
       sizes : grown_each l.axis l.size n m l.pos-iterator ≡ grown_each l.axis l.size n l.cfg (inside l.fn.entity l.rows l.columns);
       hints : length l.hints.items ≡ lines_in (across l.axis) l.block.size;
     }
