@@ -8,13 +8,13 @@ Lacks at bytes = AllByRecursion (λ b. eqb b at ≡ false) bytes
 
 -- a byte's escape is undone, whatever follows
 unescaped-byte : (b : ℕ) (bs : List ℕ) → unescaped (escaped_byte b ++ bs) ≡ before b (unescaped bs)
-unescaped-byte b bs = by_escape (eqb b 9) (eqb b 10) (eqb b 92) refl refl refl
+unescaped-byte b bs = escape_undone (eqb b 9) (eqb b 10) (eqb b 92) refl refl refl
   where
-    by_escape : (t n s : Bool) → eqb b 9 ≡ t → eqb b 10 ≡ n → eqb b 92 ≡ s → unescaped (cond t (codes "\\t") (cond n (codes "\\n") (cond s (codes "\\\\") (b ∷ []))) ++ bs) ≡ before b (unescaped bs)
-    by_escape true n s et en es = ap (λ c. before c (unescaped bs)) (sym (eqb-true b 9 et))
-    by_escape false true s et en es = ap (λ c. before c (unescaped bs)) (sym (eqb-true b 10 en))
-    by_escape false false true et en es = ap (λ c. before c (unescaped bs)) (sym (eqb-true b 92 es))
-    by_escape false false false et en es = unescaped-plain b bs es
+    escape_undone : (t n s : Bool) → eqb b 9 ≡ t → eqb b 10 ≡ n → eqb b 92 ≡ s → unescaped (cond t (codes "\\t") (cond n (codes "\\n") (cond s (codes "\\\\") (b ∷ []))) ++ bs) ≡ before b (unescaped bs)
+    escape_undone true n s et en es = ap (λ c. before c (unescaped bs)) (sym (eqb-true b 9 et))
+    escape_undone false true s et en es = ap (λ c. before c (unescaped bs)) (sym (eqb-true b 10 en))
+    escape_undone false false true et en es = ap (λ c. before c (unescaped bs)) (sym (eqb-true b 92 es))
+    escape_undone false false false et en es = unescaped-plain b bs es
 
 -- the word that stands for a text is read as that text
 pub unescaped-escaped : (text : List ℕ) → unescaped (escaped text) ≡ Some text
@@ -29,13 +29,13 @@ texts_of-escaped [] utf8 = refl
 texts_of-escaped (text ∷ texts) utf8 = rw (text_of_word-escaped text utf8.0, texts_of-escaped texts utf8.1) refl
 
 lacks-byte : (at b : ℕ) → eqb 92 at ≡ false → eqb 116 at ≡ false → eqb 110 at ≡ false → (eqb b 9 ≡ false → eqb b 10 ≡ false → eqb b at ≡ false) → Lacks at (escaped_byte b)
-lacks-byte at b slash t n plain = by_escape (eqb b 9) (eqb b 10) (eqb b 92) refl refl
+lacks-byte at b slash t n plain = escape_lacks (eqb b 9) (eqb b 10) (eqb b 92) refl refl
   where
-    by_escape : (x y z : Bool) → eqb b 9 ≡ x → eqb b 10 ≡ y → Lacks at (cond x (codes "\\t") (cond y (codes "\\n") (cond z (codes "\\\\") (b ∷ []))))
-    by_escape true y z ex ey = (slash, (t, tt))
-    by_escape false true z ex ey = (slash, (n, tt))
-    by_escape false false true ex ey = (slash, (slash, tt))
-    by_escape false false false ex ey = (plain ex ey, tt)
+    escape_lacks : (x y z : Bool) → eqb b 9 ≡ x → eqb b 10 ≡ y → Lacks at (cond x (codes "\\t") (cond y (codes "\\n") (cond z (codes "\\\\") (b ∷ []))))
+    escape_lacks true y z ex ey = (slash, (t, tt))
+    escape_lacks false true z ex ey = (slash, (n, tt))
+    escape_lacks false false true ex ey = (slash, (slash, tt))
+    escape_lacks false false false ex ey = (plain ex ey, tt)
 
 -- no tab and no newline stands in a word that was written
 pub lacks_tab : (text : List ℕ) → Lacks 9 (escaped text)

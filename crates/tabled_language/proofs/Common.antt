@@ -45,8 +45,8 @@ pub use Rattle.tabled_language.specs.declared.draft.Shape.{Shape}
 pub use Rattle.tabled_language.specs.declared.fault.Fault.{Fault}
 pub use Rattle.tabled_language.specs.declared.fault.Fault.TheVariants.{NumberRange, OutOfPlace, ShapeDiffers, SpanMisfits}
 pub use Rattle.tabled_language.specs.declared.fault.ParseError.{ParseError}
-pub use Rattle.tabled_language.specs.declared.fault.ReadError.{ReadError}
-pub use Rattle.tabled_language.specs.declared.fault.ReadError.TheVariants.{Faulty, OutOfMemory}
+pub use Rattle.tabled_language.specs.declared.fault.LineError.{LineError}
+pub use Rattle.tabled_language.specs.declared.fault.LineError.TheVariants.{Faulty, OutOfMemory}
 pub use Rattle.tabled_select.proofs.Common.{◌%◌, IfOk-weaker, lt-ltb}
 pub use Rattle.tabled_settings.proofs.Common.{IfOk, eq-eqb, map-map, nat_tests, same_grid}
 pub use Rattle.tabled_spans.proofs.Common.{IsUtf8, eqb-false, join_with_byte, le-leb, slice_split, ◌^◌}

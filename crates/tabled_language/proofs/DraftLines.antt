@@ -75,11 +75,11 @@ sound_line lines line fine = sound_words line (is_in_place lines line) fine
 
 -- what no fault of several lines says of the first one and of the others
 parts_none : (fault_at : List Line → Line → Option Fault) (earlier : List Line) (line : Line) (lines : List Line) → first_fault fault_at earlier (line ∷ lines) ≡ None → (fault_at earlier line ≡ None) × (first_fault fault_at (earlier ++ line ∷ []) lines ≡ None)
-parts_none fault_at earlier line lines none = by_fault (fault_at earlier line) refl
+parts_none fault_at earlier line lines none = none_here (fault_at earlier line) refl
   where
-    by_fault : (o : Option Fault) → fault_at earlier line ≡ o → (fault_at earlier line ≡ None) × (first_fault fault_at (earlier ++ line ∷ []) lines ≡ None)
-    by_fault None e = (e, rw e at none)
-    by_fault (Some fault) e = let has = rw e at none in cc
+    none_here : (o : Option Fault) → fault_at earlier line ≡ o → (fault_at earlier line ≡ None) × (first_fault fault_at (earlier ++ line ∷ []) lines ≡ None)
+    none_here None e = (e, rw e at none)
+    none_here (Some fault) e = let has = rw e at none in cc
 
 -- no shape may stand after these lines
 Blocked : List Line → Type 0

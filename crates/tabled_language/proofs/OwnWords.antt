@@ -16,20 +16,20 @@ onto_first-lacks c b (part ∷ parts) other none = (rw other none.0, none.1)
 -- no part has a byte that the whole lacks
 pub parts_lack : (c at : ℕ) (bytes : List ℕ) → has_byte c bytes ≡ false → LackEach c (slice_split (λ b. eqb b at) bytes)
 parts_lack c at [] none = (none, tt)
-parts_lack c at (b ∷ bs) none = by_first (eqb b at) (parts_lack c at bs (or_parts (eqb b c) _ none).1)
+parts_lack c at (b ∷ bs) none = lack_with_first (eqb b at) (parts_lack c at bs (or_parts (eqb b c) _ none).1)
   where
-    by_first : (here : Bool) → LackEach c (slice_split (λ b. eqb b at) bs) → LackEach c (cond here ([] ∷ slice_split (λ b. eqb b at) bs) (onto_first b (slice_split (λ b. eqb b at) bs)))
-    by_first true later = (refl, later)
-    by_first false later = onto_first-lacks c b (slice_split (λ b. eqb b at) bs) (or_parts (eqb b c) _ none).0 later
+    lack_with_first : (here : Bool) → LackEach c (slice_split (λ b. eqb b at) bs) → LackEach c (cond here ([] ∷ slice_split (λ b. eqb b at) bs) (onto_first b (slice_split (λ b. eqb b at) bs)))
+    lack_with_first true later = (refl, later)
+    lack_with_first false later = onto_first-lacks c b (slice_split (λ b. eqb b at) bs) (or_parts (eqb b c) _ none).0 later
 
 -- no part has the byte that separates them
 pub parts_lack_separator : (at : ℕ) (bytes : List ℕ) → LackEach at (slice_split (λ b. eqb b at) bytes)
 parts_lack_separator at [] = (refl, tt)
-parts_lack_separator at (b ∷ bs) = by_first (eqb b at) refl (parts_lack_separator at bs)
+parts_lack_separator at (b ∷ bs) = lack_with_first (eqb b at) refl (parts_lack_separator at bs)
   where
-    by_first : (here : Bool) → eqb b at ≡ here → LackEach at (slice_split (λ b. eqb b at) bs) → LackEach at (cond here ([] ∷ slice_split (λ b. eqb b at) bs) (onto_first b (slice_split (λ b. eqb b at) bs)))
-    by_first true is later = (refl, later)
-    by_first false other later = onto_first-lacks at b (slice_split (λ b. eqb b at) bs) other later
+    lack_with_first : (here : Bool) → eqb b at ≡ here → LackEach at (slice_split (λ b. eqb b at) bs) → LackEach at (cond here ([] ∷ slice_split (λ b. eqb b at) bs) (onto_first b (slice_split (λ b. eqb b at) bs)))
+    lack_with_first true is later = (refl, later)
+    lack_with_first false other later = onto_first-lacks at b (slice_split (λ b. eqb b at) bs) other later
 
 -- a text without tab, newline or backslash is its own word
 pub own_word : (text : List ℕ) → has_byte 9 text ≡ false → has_byte 10 text ≡ false → has_byte 92 text ≡ false → IsOwnWord text

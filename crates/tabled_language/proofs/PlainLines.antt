@@ -36,8 +36,8 @@ plain_line line text clean = rw (is_utf8-from_IsUtf8 line text, clean) refl
 
 -- bytes that are no text aren't
 pub not_plain : (line : List ℕ) → (IsUtf8 line → ⊥) → is_plain line ≡ false
-not_plain line none = by_test (is_utf8 line) refl
+not_plain line none = is_not_plain (is_utf8 line) refl
   where
-    by_test : (b : Bool) → is_utf8 line ≡ b → is_plain line ≡ false
-    by_test true valid = absurd (none (IsUtf8-from_is_utf8 line valid))
-    by_test false invalid = rw invalid refl
+    is_not_plain : (b : Bool) → is_utf8 line ≡ b → is_plain line ≡ false
+    is_not_plain true valid = absurd (none (IsUtf8-from_is_utf8 line valid))
+    is_not_plain false invalid = rw invalid refl

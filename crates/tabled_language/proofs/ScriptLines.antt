@@ -1,5 +1,5 @@
 -- A script read line by line into a draft.
-use Rattle.tabled_language.proofs.Common.{[], ◌&&◌, ◌++◌, ◌+◌, ◌<◌, ◌∙◌, ◌∷◌, ◌≡◌, ◌≢◌, ◌≤◌, AllByRecursion, Bool, Draft, EndsScript, Err, Fault, Faulty, IsUtf8-from_is_utf8, LackEach, Line, LineEnds, List, None, Ok, Option, OutOfMemory, OutOfPlace, ReadError, ReadsLine, ReadsScript, RecordLine, Rectangle, Result, ShapeLine, Some, SpanLine, State, all-append, anchor_in, and_from, and_parts, ap, append-nil, append_assoc, arith, behind, bytes_eq, cond, count_by-le-length, draft_of, eqb, false, false_from_ne_true, fault_behind, fault_of, first_fault, in_line, is_in_place, is_ok, is_plain, keeping_asks, length, length-append, length-map, length-slice_split, lines_of, meaning_of, none-some, not-true, or_right, parts_lack_separator, reads_anchor, reads_shape, refl, remove, says_line, script_or_fault, slice_index_or, step_line, steps, sym, takes, texts_of, true, whole, with_line, words_fault, words_of, ℕ}
+use Rattle.tabled_language.proofs.Common.{[], ◌&&◌, ◌++◌, ◌+◌, ◌<◌, ◌∙◌, ◌∷◌, ◌≡◌, ◌≢◌, ◌≤◌, AllByRecursion, Bool, Draft, EndsScript, Err, Fault, Faulty, IsUtf8-from_is_utf8, LackEach, Line, LineEnds, List, None, Ok, Option, OutOfMemory, OutOfPlace, LineError, ReadsLine, ReadsScript, RecordLine, Rectangle, Result, ShapeLine, Some, SpanLine, State, all-append, anchor_in, and_from, and_parts, ap, append-nil, append_assoc, arith, behind, bytes_eq, cond, count_by-le-length, draft_of, eqb, false, false_from_ne_true, fault_behind, fault_of, first_fault, in_line, is_in_place, is_ok, is_plain, keeping_asks, length, length-append, length-map, length-slice_split, lines_of, meaning_of, none-some, not-true, or_right, parts_lack_separator, reads_anchor, reads_shape, refl, remove, says_line, script_or_fault, slice_index_or, step_line, steps, sym, takes, texts_of, true, whole, with_line, words_fault, words_of, ℕ}
 use Rattle.std.specs.Prelude.{codes, map}
 use Rattle.std.proofs.lemmas.Slice.Eq.{bytes_eq-Decides}
 use Rattle.tabled_language.specs.Memory.{line_asks, lines_ask, step_asks, verb_asks, words_ask}
@@ -117,7 +117,7 @@ has_read-fault {all} {rest} {number} {draft} line fault h bad =
     rw (first, h.counted) refl
 
 -- a script ends with the line that isn't read
-pub script_ends : (input line : List ℕ) (rest : List (List ℕ)) (number : ℕ) (draft : Draft) (error : ReadError) → HasRead (lines_of input) (line ∷ rest) number draft → LineEnds (fault_behind draft (says_line line)) (line_asks (takes draft) line) error → EndsScript input (in_line (number + 1) error)
+pub script_ends : (input line : List ℕ) (rest : List (List ℕ)) (number : ℕ) (draft : Draft) (error : LineError) → HasRead (lines_of input) (line ∷ rest) number draft → LineEnds (fault_behind draft (says_line line)) (line_asks (takes draft) line) error → EndsScript input (in_line (number + 1) error)
 script_ends input line rest number draft (Faulty fault) h told = has_read-fault line fault h told
 script_ends input line rest number draft OutOfMemory h told =
     h.memory (lines_ask-here h.earlier line rest (line_asks-alike (is_in_place h.earlier) (takes draft) line (λ l. place_told h.earlier l h.sound ∙ ap (λ d. takes d l) (sym h.is)) ∙ told))
@@ -160,11 +160,11 @@ pub verb_asks-step : (in_place : Line → Bool) (verb : List ℕ) (texts : List 
 verb_asks-step in_place verb texts shape span = rw (differ verb (codes "shape") shape, differ verb (codes "span") span) refl
 
 -- what is read of a line, the line said in other words
-pub same_line : {X : Type 0} (old new : Draft) (n : ℕ) (r : Result X ReadError) (line other : Line) (asks others : Bool) → line ≡ other → asks ≡ others → ReadsLine old n other others r new → ReadsLine old n line asks r new
+pub same_line : {X : Type 0} (old new : Draft) (n : ℕ) (r : Result X LineError) (line other : Line) (asks others : Bool) → line ≡ other → asks ≡ others → ReadsLine old n other others r new → ReadsLine old n line asks r new
 same_line old new n r line other asks others e k told = rw (e, k) told
 
 -- a line that asks for memory in any case
-pub asks_anyway : {X : Type 0} (old new : Draft) (n : ℕ) (line : Line) (asks : Bool) (r : Result X ReadError) → ReadsLine old n line asks r new → ReadsLine old n line true r new
+pub asks_anyway : {X : Type 0} (old new : Draft) (n : ℕ) (line : Line) (asks : Bool) (r : Result X LineError) → ReadsLine old n line asks r new → ReadsLine old n line true r new
 asks_anyway old new n line asks (Ok x) told = told
 asks_anyway old new n line asks (Err (Faulty fault)) told = told
 asks_anyway old new n line asks (Err OutOfMemory) told = refl

@@ -1,5 +1,5 @@
 -- Rows of a table, taken from a list of texts.
-use Rattle.tabled_language.proofs.Common.{[], ◌*◌, ◌++◌, ◌+◌, ◌<◌, ◌∙◌, ◌∷◌, ◌≡◌, ◌≤◌, AreWide, Bool, EndsEarly, Err, Faulty, Grid, IsEven, List, NumberRange, Ok, OutOfMemory, Read, ReadError, Reading, ap, ap₂, arith, cond, drop, drop-drop, drop_more, eqb, eqb-false, even-width, fails, false, first_word, get_or, gives, grid_of, le-leb, length, length-drop, length-map, length-map-range_with_len, map, map-append, map-range_with_len_more, map_grid, mul-le-mul_right, or_right, range_with_len, reads_positive_number, reads_number, reads_rows, reads_table, reads_text, refl, rows_of_texts, same_grid, suc, sym, take, take_more, true, wide-map, width_of, zero, ℕ}
+use Rattle.tabled_language.proofs.Common.{[], ◌*◌, ◌++◌, ◌+◌, ◌<◌, ◌∙◌, ◌∷◌, ◌≡◌, ◌≤◌, AreWide, Bool, EndsEarly, Err, Faulty, Grid, IsEven, List, NumberRange, Ok, OutOfMemory, Read, LineError, Reading, ap, ap₂, arith, cond, drop, drop-drop, drop_more, eqb, eqb-false, even-width, fails, false, first_word, get_or, gives, grid_of, le-leb, length, length-drop, length-map, length-map-range_with_len, map, map-append, map-range_with_len_more, map_grid, mul-le-mul_right, or_right, range_with_len, reads_positive_number, reads_number, reads_rows, reads_table, reads_text, refl, rows_of_texts, same_grid, suc, sym, take, take_more, true, wide-map, width_of, zero, ℕ}
 use Rattle.std.proofs.lemmas.List.{length-take}
 
 abbrev row_at : ℕ → List (List ℕ) → ℕ → List (List ℕ)
@@ -34,7 +34,7 @@ word_read texts now i x new is below told =
     (ap first next, ap rest next)
 
 -- where a word is left, only memory can be wanted
-pub only_memory : (texts now : List (List ℕ)) (i : ℕ) (error : ReadError) → now ≡ drop i texts → i < length texts → EndsEarly reads_text now error → error ≡ OutOfMemory
+pub only_memory : (texts now : List (List ℕ)) (i : ℕ) (error : LineError) → now ≡ drop i texts → i < length texts → EndsEarly reads_text now error → error ≡ OutOfMemory
 only_memory texts now i OutOfMemory is below told = refl
 only_memory texts now i (Faulty fault) is below told = cc (sym told ∙ ap first_word (is ∙ drop_more texts i [] below))
 
@@ -74,11 +74,11 @@ counted false m n rest left some e = let same : m ≡ n = ap number e in omega (
 
 -- a positive number is at least 1
 pub positive_number_some : (texts left : List (List ℕ)) (n : ℕ) → reads_positive_number.reads texts ≡ Ok (n, left) → 0 < n
-positive_number_some texts left n is = by_read (reads_number.reads texts) refl
+positive_number_some texts left n is = some_if_read (reads_number.reads texts) refl
   where
-    by_read : (r : Read ℕ) → reads_number.reads texts ≡ r → 0 < n
-    by_read (Err fault) e = let fails = rw e at is in cc
-    by_read (Ok (m, rest)) e = counted (eqb m 0) m n rest left refl (rw e at is)
+    some_if_read : (r : Read ℕ) → reads_number.reads texts ≡ r → 0 < n
+    some_if_read (Err fault) e = let fails = rw e at is in cc
+    some_if_read (Ok (m, rest)) e = counted (eqb m 0) m n rest left refl (rw e at is)
 
 -- a table that was read
 pub table_read : (texts first second left : List (List ℕ)) (rows columns : ℕ) (g : Grid (List ℕ)) → reads_positive_number.reads texts ≡ Ok (rows, first) → reads_positive_number.reads first ≡ Ok (columns, second) → rows * columns ≤ length second → g ≡ rows_of_texts rows columns second → left ≡ drop (rows * columns) second → reads_table.reads texts ≡ Ok (g, left)

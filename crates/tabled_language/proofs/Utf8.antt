@@ -10,11 +10,11 @@ text_lent bytes text is valid = rw (is_utf8-from_IsUtf8 bytes valid) (ap Some is
 
 -- bytes that aren't
 pub no_text : (bytes : List ℕ) → (IsUtf8 bytes → ⊥) → None ≡ if_utf8 bytes
-no_text bytes none = by_test (is_utf8 bytes) refl
+no_text bytes none = lends_none (is_utf8 bytes) refl
   where
-    by_test : (b : Bool) → is_utf8 bytes ≡ b → None ≡ cond b (Some bytes) None
-    by_test false is = refl
-    by_test true is = absurd (none (IsUtf8-from_is_utf8 bytes is))
+    lends_none : (b : Bool) → is_utf8 bytes ≡ b → None ≡ cond b (Some bytes) None
+    lends_none false is = refl
+    lends_none true is = absurd (none (IsUtf8-from_is_utf8 bytes is))
 
 -- what `String::from_utf8` makes of bytes
 pub if_utf8-made : {E : Type 0} (bytes : Vec ℕ) (r : Result (String Global) E) → IfOk r (λ t. string_vec t ≡ bytes) → (IsUtf8 bytes.items → IsOk r) → option_map string_bytes (result_ok r) ≡ if_utf8 bytes.items

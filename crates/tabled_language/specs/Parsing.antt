@@ -12,12 +12,12 @@ use Rattle.tabled_language.specs.declared.fault.Fault.{Fault}
 use Rattle.tabled_language.specs.declared.fault.Fault.TheVariants.{OutOfPlace}
 use Rattle.tabled_language.specs.declared.fault.ParseError.{ParseError}
 use Rattle.tabled_language.specs.declared.fault.ParseError.TheVariants as parse_error
-use Rattle.tabled_language.specs.declared.fault.ReadError.{ReadError}
-use Rattle.tabled_language.specs.declared.fault.ReadError.TheVariants.{Faulty, OutOfMemory}
+use Rattle.tabled_language.specs.declared.fault.LineError.{LineError}
+use Rattle.tabled_language.specs.declared.fault.LineError.TheVariants.{Faulty, OutOfMemory}
 use Rattle.tabled_language.specs.declared.lent.LentText.{LentText}
 use Rattle.tabled_language.specs.declared.script.Script.{Script as Scripted}
-use Rattle.tabled_language.specs.declared.words.Source.{Source}
-use Rattle.tabled_language.specs.declared.words.Source.TheVariants.{Line as InLine, Texts}
+use Rattle.tabled_language.specs.declared.words.WordSource.{WordSource}
+use Rattle.tabled_language.specs.declared.words.WordSource.TheVariants.{Line as InLine, Texts}
 use Rattle.tabled_language.specs.Drafts.{Draft, draft_of, fault_behind, takes, with_line}
 use Rattle.tabled_language.specs.Lent.{bytes_of, texts_in_records}
 use Rattle.tabled_language.specs.Faults.{fault_of, first_fault}
@@ -28,17 +28,17 @@ use Rattle.tabled_language.specs.Verb.{Line, says_verb}
 use Rattle.tabled_language.specs.Words.{Reading}
 
 -- the words that are left of a source
-abbrev pub words_in : Source → List (List ℕ)
+abbrev pub words_in : WordSource → List (List ℕ)
 words_in (InLine words) = words
 words_in (Texts texts) = map bytes_of (iter_rest texts)
 
 -- why a reading ends early: the fault that it meets, or memory that it asks for
-abbrev pub EndsEarly : {A : Type 0} → Reading A → List (List ℕ) → ReadError → Type 0
+abbrev pub EndsEarly : {A : Type 0} → Reading A → List (List ℕ) → LineError → Type 0
 EndsEarly reading texts (Faulty fault) = reading.reads texts ≡ Err fault
 EndsEarly reading texts OutOfMemory = reading.asks texts ≡ true
 
 -- code reads as a reading says, from texts to those left, with what it gave seen through a view
-abbrev pub Reads : {A X : Type 0} → (X → A) → Reading A → List (List ℕ) → Result X ReadError → List (List ℕ) → Type 0
+abbrev pub Reads : {A X : Type 0} → (X → A) → Reading A → List (List ℕ) → Result X LineError → List (List ℕ) → Type 0
 Reads view reading old result new = MatchResult result (λ x. reading.reads old ≡ Ok (view x, new)) (EndsEarly reading old)
 
 -- the texts of rows of cells in memory
@@ -46,7 +46,7 @@ abbrev pub cell_texts : List (Vec (String Global)) → List (List (List ℕ))
 cell_texts rows = map (map string_bytes) (map_items rows)
 
 -- code takes what it is to take, seen through a view, and leaves the texts that it is to leave, or memory was refused
-abbrev pub TakesWords : {A X : Type 0} → (X → A) → A → List (List ℕ) → Result X ReadError → List (List ℕ) → Type 0
+abbrev pub TakesWords : {A X : Type 0} → (X → A) → A → List (List ℕ) → Result X LineError → List (List ℕ) → Type 0
 TakesWords view taken left result new = MatchResult result (λ x. (view x ≡ taken) × (new ≡ left)) (λ error. error ≡ OutOfMemory)
 
 -- the draft of what is in memory
@@ -80,24 +80,24 @@ abbrev pub BecomesScript : Draft → Result Scripted ParseError → Type 0
 BecomesScript d result = MatchResult result (λ s. DraftMeans d (Ok (script_in s.records.items s.spans s.steps.items))) (EndsDraft d)
 
 -- why a line isn't read: its fault, or memory where it asks for some
-abbrev pub LineEnds : Option Fault → Bool → ReadError → Type 0
+abbrev pub LineEnds : Option Fault → Bool → LineError → Type 0
 LineEnds wrong asks (Faulty fault) = wrong ≡ Some fault
 LineEnds wrong asks OutOfMemory = asks ≡ true
 
 -- the line of a number read into a draft, or why it isn't
-abbrev pub ReadsLine : {X : Type 0} → Draft → ℕ → Line → Bool → Result X ReadError → Draft → Type 0
+abbrev pub ReadsLine : {X : Type 0} → Draft → ℕ → Line → Bool → Result X LineError → Draft → Type 0
 ReadsLine old n line asks result new = MatchResult result (λ _. (fault_behind old line ≡ None) × (new ≡ with_line old n line)) (LineEnds (fault_behind old line) asks)
 
 -- the words of the line of a number read into a draft, or why they aren't
-abbrev pub ReadsWords : {X : Type 0} → Draft → ℕ → List (List ℕ) → Result X ReadError → Draft → Type 0
+abbrev pub ReadsWords : {X : Type 0} → Draft → ℕ → List (List ℕ) → Result X LineError → Draft → Type 0
 ReadsWords old n words result new = ReadsLine old n (meaning_of (Some words)) (words_ask (takes old) words) result new
 
 -- what a verb says with words, in the line of a number, read into a draft, or why it isn't
-abbrev pub ReadsVerb : {X : Type 0} → Draft → ℕ → List ℕ → List (List ℕ) → Result X ReadError → Draft → Type 0
+abbrev pub ReadsVerb : {X : Type 0} → Draft → ℕ → List ℕ → List (List ℕ) → Result X LineError → Draft → Type 0
 ReadsVerb old n verb words result new = ReadsLine old n (says_verb verb words) (verb_asks (takes old) verb words) result new
 
 -- code says that a line stands in its place after what was read, or that it doesn't
-abbrev pub IsPlaced : {X : Type 0} → Draft → Line → Result X ReadError → Type 0
+abbrev pub IsPlaced : {X : Type 0} → Draft → Line → Result X LineError → Type 0
 IsPlaced d line result = MatchResult result (λ _. takes d line ≡ true) (λ error. (error ≡ Faulty OutOfPlace) × (takes d line ≡ false))
 
 -- all lines of a script are read into a draft, and none is faulty by itself
@@ -107,6 +107,6 @@ pub record ReadsScript (input : List ℕ) (draft : Draft) : Type 0 where
   pub asks : 0 < length draft.anchors → asks_memory input ≡ true
 
 -- why a script isn't read, by why one of its lines isn't, and the number of that line
-abbrev pub in_line : ℕ → ReadError → ParseError
+abbrev pub in_line : ℕ → LineError → ParseError
 in_line line (Faulty fault) = parse_error.Faulty line fault
 in_line line OutOfMemory = parse_error.OutOfMemory

@@ -7,7 +7,6 @@ use Rattle.tabled_grid.specs.declared.config.offset.Offset.{Offset}
 use Rattle.tabled_grid.specs.declared.config.offset.Offset.TheVariants.{End, Start}
 use Rattle.tabled_grid.specs.declared.records.axis.Axis.{Axis}
 use Rattle.tabled_grid.specs.declared.records.axis.Axis.TheVariants.{Columns, Rows}
-use Rattle.tabled_settings.specs.Rearranged.{extracted, rotated}
 use Rattle.tabled_settings.specs.declared.rotate.Rotate.{Rotate}
 use Rattle.tabled_settings.specs.declared.rotate.Rotate.TheVariants.{Bottom, Left, Right, Top}
 use Rattle.tabled_grid.specs.declared.records.piece_order.PieceOrder.{PieceOrder}
@@ -16,8 +15,8 @@ use Rattle.tabled_grid.specs.declared.records.piece_order.PieceOrder.TheVariants
 use Rattle.tabled_settings.specs.declared.split.Display.{Display}
 use Rattle.tabled_settings.specs.declared.split.Display.TheVariants as display
 use Rattle.tabled_spans.specs.Widths as widths
-use Rattle.tabled_steps.specs.Selected.{half_open}
-use Rattle.tabled_steps.specs.States.{State, cut_lines, duplicate, join, merge, merge_all, on_each, put_panel, rearrange, recode, remove_named, remove_range, reverse, set, span, wrap}
+use Rattle.tabled_steps.specs.Rearrangements.{extract, remove_named, remove_range, turn}
+use Rattle.tabled_steps.specs.States.{State, cut_lines, duplicate, join, merge, merge_all, on_each, put_panel, rearrange, recode, reverse, set, span, wrap}
 use Rattle.tabled_language.specs.declared.fault.Fault.{Fault}
 use Rattle.tabled_language.specs.declared.fault.Fault.TheVariants.{WordCount}
 use Rattle.tabled_language.specs.Selectors.{reads_cells}
@@ -132,7 +131,7 @@ reads_cut_panel = then_reads reads_number (λ n. then_reads reads_number (λ wid
 
 -- a way to turn
 abbrev pub reads_turn : Reading (State → State)
-reads_turn = then_reads reads_rotate (λ how. gives (rearrange (rotated how)))
+reads_turn = then_reads reads_rotate (λ how. gives (rearrange (turn how)))
 
 -- rows or columns, the first of them and the limit
 abbrev pub reads_reverse : Reading (State → State)
@@ -140,14 +139,14 @@ reads_reverse = then_reads reads_lines (λ axis. then_reads reads_number (λ sta
 
 -- a range of rows and one of columns
 abbrev pub reads_extract : Reading (State → State)
-reads_extract = then_reads (reads_two reads_number) (λ rows. then_reads (reads_two reads_number) (λ columns. gives (rearrange (extracted (half_open rows.0 rows.1) (half_open columns.0 columns.1)))))
+reads_extract = then_reads (reads_two reads_number) (λ rows. then_reads (reads_two reads_number) (λ columns. gives (rearrange (extract rows.0 rows.1 columns.0 columns.1))))
 
 -- what `remove` takes away: rows or columns of a range, or columns with a name
 abbrev pub removals : Choices (State → State)
 removals =
-    (codes "rows", then_reads (reads_two reads_number) (λ two. gives (remove_range Rows two.0 two.1)))
-    ∷ (codes "columns", then_reads (reads_two reads_number) (λ two. gives (remove_range Columns two.0 two.1)))
-    ∷ (codes "named", then_reads reads_text (λ name. gives (remove_named name)))
+    (codes "rows", then_reads (reads_two reads_number) (λ two. gives (rearrange (remove_range Rows two.0 two.1))))
+    ∷ (codes "columns", then_reads (reads_two reads_number) (λ two. gives (rearrange (remove_range Columns two.0 two.1))))
+    ∷ (codes "named", then_reads reads_text (λ name. gives (rearrange (remove_named name))))
     ∷ []
 
 -- a side, a default text and a table

@@ -75,12 +75,12 @@ impl From<AllocError> for ParseError {
 
 /// Why a line, or a part of it, was not read.
 #[derive(Clone, Copy, Debug, PartialEq, Eq)]
-pub(crate) enum ReadError {
+pub(crate) enum LineError {
     Faulty(Fault),
     OutOfMemory,
 }
 
-impl ReadError {
+impl LineError {
     ghost use Rattle.std.specs.Prelude.{◌≡◌};
     ghost use Rattle.tabled_language.specs.Parsing.{in_line};
 
@@ -89,41 +89,41 @@ impl ReadError {
         ensures { result ≡ in_line line self }
     {
         match self {
-            ReadError::Faulty(fault) => ParseError::Faulty { line, fault },
-            ReadError::OutOfMemory => ParseError::OutOfMemory,
+            LineError::Faulty(fault) => ParseError::Faulty { line, fault },
+            LineError::OutOfMemory => ParseError::OutOfMemory,
         }
     }
 }
 
-impl From<Fault> for ReadError {
+impl From<Fault> for LineError {
     ghost use Rattle.std.specs.Prelude.{◌≡◌};
-    ghost use Rattle.tabled_language.specs.declared.fault.ReadError.TheVariants.{Faulty};
+    ghost use Rattle.tabled_language.specs.declared.fault.LineError.TheVariants.{Faulty};
 
     ghost from_gives = { λ fault e. e ≡ Faulty fault };
 
-    fn from(fault: Fault) -> ReadError {
-        ReadError::Faulty(fault)
+    fn from(fault: Fault) -> LineError {
+        LineError::Faulty(fault)
     }
 }
 
-impl From<AllocError> for ReadError {
+impl From<AllocError> for LineError {
     ghost use Rattle.std.specs.Prelude.{◌≡◌};
-    ghost use Rattle.tabled_language.specs.declared.fault.ReadError.TheVariants.{OutOfMemory};
+    ghost use Rattle.tabled_language.specs.declared.fault.LineError.TheVariants.{OutOfMemory};
 
     ghost from_gives = { λ _ e. e ≡ OutOfMemory };
 
-    fn from(_refused: AllocError) -> ReadError {
-        ReadError::OutOfMemory
+    fn from(_refused: AllocError) -> LineError {
+        LineError::OutOfMemory
     }
 }
 
-impl<T: Drop> From<AllocFailed<T>> for ReadError {
+impl<T: Drop> From<AllocFailed<T>> for LineError {
     ghost use Rattle.std.specs.Prelude.{◌≡◌};
-    ghost use Rattle.tabled_language.specs.declared.fault.ReadError.TheVariants.{OutOfMemory};
+    ghost use Rattle.tabled_language.specs.declared.fault.LineError.TheVariants.{OutOfMemory};
 
     ghost from_gives = { λ _ e. e ≡ OutOfMemory };
 
-    fn from(_refused: AllocFailed<T>) -> ReadError {
-        ReadError::OutOfMemory
+    fn from(_refused: AllocFailed<T>) -> LineError {
+        LineError::OutOfMemory
     }
 }

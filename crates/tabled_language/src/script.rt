@@ -9,7 +9,7 @@ use crate::draft::Draft;
 use crate::fault::ParseError;
 use crate::lent::LentText;
 use crate::parts::Parts;
-use crate::text_parts::Lines;
+use crate::text_parts::TextLines;
 use crate::texts::plain;
 use std::alloc::Global;
 use tabled_grid::config::SpannedConfig;
@@ -57,7 +57,7 @@ fn read_plain_lines<'a>(alloc: Global, text: &'a str) -> Result<Draft<'a>, Parse
 {
     let mut draft = Draft::new(alloc);
     let mut number = 0;
-    for line in Lines::new(text) {
+    for line in TextLines::new(text) {
         number += 1;
         if let Err(error) = draft.read_plain(alloc, number, line) {
             return Err(error.in_line(number));

@@ -9,7 +9,7 @@ use crate::parts::{count_parts, first_place};
 use std::marker::Model;
 
 /// The lines of a text.
-pub(crate) type Lines<'a> = TextParts<'a, b'\n'>;
+pub(crate) type TextLines<'a> = TextParts<'a, b'\n'>;
 
 /// The words of a line as they stand.
 pub(crate) type Fields<'a> = TextParts<'a, b'\t'>;

@@ -1,6 +1,6 @@
 //! The words of a line, read from the front as they come.
 
-use crate::fault::{Fault, ReadError};
+use crate::fault::{Fault, LineError};
 use crate::lent::LentText;
 use crate::text_parts::Fields;
 use crate::word::{integer_of, length_of, number_of};
@@ -10,11 +10,11 @@ use std::slice;
 use tabled_grid::records::{CellText, Text};
 
 /// What was read, or why it wasn't.
-pub(crate) type Read<T> = Result<T, ReadError>;
+pub(crate) type Read<T> = Result<T, LineError>;
 
 /// Where words come from: a line without escapes, or the texts of any other.
 #[derive(Drop)]
-enum Source<'a> {
+enum WordSource<'a> {
     Line(Fields<'a>),
     Texts(slice::Iter<'a, LentText<'a>>),
 }
@@ -22,7 +22,7 @@ enum Source<'a> {
 /// Words that are read from the front. A contract sees them as the list of those left.
 #[derive(Drop)]
 pub(crate) struct Words<'a> {
-    source: Source<'a>,
+    source: WordSource<'a>,
 }
 
 impl<'a> Model for Words<'a> {
@@ -46,7 +46,7 @@ impl<'a> Words<'a> {
         ensures { result ≡ words.entry }
     {
         Words {
-            source: Source::Line(words),
+            source: WordSource::Line(words),
         }
     }
 
@@ -55,7 +55,7 @@ impl<'a> Words<'a> {
         ensures { result ≡ map bytes_of texts.now }
     {
         Words {
-            source: Source::Texts(texts.iter()),
+            source: WordSource::Texts(texts.iter()),
         }
     }
 
@@ -63,11 +63,11 @@ impl<'a> Words<'a> {
         ensures { Reads (λ word. word.now) reads_word self.old result self.new }
     {
         match &mut self.source {
-            Source::Line(words) => match words.next() {
+            WordSource::Line(words) => match words.next() {
                 Some(word) => Ok(word),
                 None => Err(Fault::WordCount.into()),
             },
-            Source::Texts(texts) => match texts.next() {
+            WordSource::Texts(texts) => match texts.next() {
                 Some(text) => Ok(text.text()),
                 None => Err(Fault::WordCount.into()),
             },
@@ -151,8 +151,8 @@ impl<'a> Words<'a> {
         ensures { result ≡ length self.now }
     {
         match &self.source {
-            Source::Line(words) => words.left(),
-            Source::Texts(texts) => texts.len(),
+            WordSource::Line(words) => words.left(),
+            WordSource::Texts(texts) => texts.len(),
         }
     }
 

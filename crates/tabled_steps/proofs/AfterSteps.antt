@@ -2,10 +2,11 @@
 use Rattle.tabled_steps.proofs.Common.{[], ◌&&◌, ◌<◌, ◌∙◌, ◌∷◌, ◌≡◌, ◌≤◌, ◌⊎◌, Axis, Change, Columns, Does, Duplicates, Each, EachListed, Entity, Grid, IsEven-map_grid, JoinsAt, List, Merges, Names, Panels, Places, Position, Rearranges, Rows, Select, Some, SpanMap, State, Step, Write, after, after_all, ap, ap₂, arith, cases_Bool, cases_lt, cell_at, cells_along, columns_with, cond, corner_of, dup_writes, duplicate, extracted, false, fold, half_open, has_room, indexes, inl, inr, joined_tables, joined_text, le-ltb, lt-ltb, map, map_grid, merge, named_by, nat_lt, on_each, place, put_panel, rearrange, recode, wrap, refl, removed, reversed, rotated, rounds, selected, set, source_texts, span, state_of, string_bytes, true, unwrap_or, with_line_at, with_writes, ℕ}
 use Rattle.tabled_grid.proofs.Mapped.{map_grid-with_column, map_grid-with_row}
 use Rattle.tabled_grid.specs.declared.config.entity.Entity.TheVariants.{Global}
-use Rattle.tabled_settings.specs.declared.rotate.Rotate.{Rotate}
-use Rattle.tabled_settings.specs.declared.rotate.Rotate.TheVariants.{Left}
-use Rattle.tabled_steps.specs.declared.step.Step.TheVariants as step
 use Rattle.tabled_steps.proofs.MergedRuns.{is_merged}
+use Rattle.tabled_steps.specs.Kinds.{Act, ChangeEach, CutLines, DoBoth, Duplicate, EntityChange, JoinTable, Merge, MergeAll, PutPanel, Rearrange, ReverseLines, Rewrite, RewriteIf, Span, act_of}
+use Rattle.tabled_steps.specs.Rearrangements.{Rearrangement}
+use Rattle.tabled_steps.specs.States.{after_act, after_change}
+use Rattle.tabled_steps.specs.Steps.{ActDoes, ChangeDoes}
 use Rattle.tabled_steps.proofs.TextReads.{is_table_of, read_through, text_from, some_text, text_known}
 
 abbrev state : Grid (List ℕ) → SpanMap → State
@@ -13,10 +14,6 @@ state texts spans = record { texts = texts; spans = spans }
 
 same_state : (g h : Grid (List ℕ)) (c d : SpanMap) → g ≡ h → c ≡ d → state g c ≡ state h d
 same_state g h c d = ap₂ state
-
-total-rotated : (rotate : Rotate) (rows columns : ℕ) (p : Position) → (q : Position) × ((rotated rotate rows columns).old_place p ≡ Some q)
-total-rotated Left rows columns p = (_, refl)
-total-rotated _ rows columns p = (_, refl)
 
 module _ {A : Type 0} (text_of : A → List ℕ) where
   -- a change for each entity, where one is what a formula says
@@ -37,8 +34,8 @@ module _ {A : Type 0} (text_of : A → List ℕ) where
         let texts : Grid (List ℕ) = map_grid text_of g in
         same_state _ _ _ _ (does.0 ∙ ap (λ (ws : List Write). with_writes ws texts) (ap (rounds (source_texts texts sources) g.rows g.columns) aimed ∙ ap (λ (es : List Entity). dup_writes es (selected texts destination) texts) named)) does.1
 
-    rearranged : (places : ℕ → ℕ → Places) → ((p : Position) → (q : Position) × ((places g.rows g.columns).old_place p ≡ Some q)) → Rearranges (places g.rows g.columns) g c h d → state_of text_of h d ≡ rearrange places (state_of text_of g c)
-    rearranged places total (reads, same) = same_state _ _ _ _ (read_through text_of g h (places g.rows g.columns) total reads) same
+    rearranged : (how : Rearrangement) → Rearranges (how.places (map_grid text_of g)) g c h d → state_of text_of h d ≡ rearrange how (state_of text_of g c)
+    rearranged how (reads, same) = same_state _ _ _ _ (read_through text_of g h (how.places (map_grid text_of g)) (how.each (map_grid text_of g)) reads) same
 
     room : (axis : Axis) (line : ℕ) → has_room axis line (map_grid text_of g) c ≡ has_room axis line g c
     room Rows line = refl
@@ -53,17 +50,16 @@ module _ {A : Type 0} (text_of : A → List ℕ) where
     put_in Columns line cells = map_grid-with_column text_of g line cells
 
     panelled : (is_blank : A → Type 0) (axis : Axis) (line : ℕ) (text : List ℕ) → Panels is_blank text_of axis line text g c h d → state_of text_of h d ≡ put_panel axis line text (state_of text_of g c)
-    panelled is_blank axis line text panel = by (cases_Bool (has_room axis line g c))
-      where
-        by : (has_room axis line g c ≡ true) ⊎ (has_room axis line g c ≡ false) → state_of text_of h d ≡ put_panel axis line text (state_of text_of g c)
-        by (inl fits) =
-            let puts = panel.puts fits in
-            let spans = panel.merges fits in
-            rw (room axis line, fits, along axis)
-            (same_state _ _ _ _ (ap (map_grid text_of) puts.is ∙ put_in axis line puts.cells ∙ ap (λ texts. with_line_at axis line texts (map_grid text_of g)) puts.texts) spans)
-        by (inr crossed) =
-            let same = panel.leaves crossed in
-            rw (room axis line, crossed) (same_state _ _ _ _ (ap (map_grid text_of) same.0) same.1)
+    panelled is_blank axis line text panel = elim (cases_Bool (has_room axis line g c)) [
+      | inl fits ↦
+          let puts = panel.puts fits in
+          let spans = panel.merges fits in
+          rw (room axis line, fits, along axis)
+          (same_state _ _ _ _ (ap (map_grid text_of) puts.is ∙ put_in axis line puts.cells ∙ ap (λ texts. with_line_at axis line texts (map_grid text_of g)) puts.texts) spans)
+      | inr crossed ↦
+          let same = panel.leaves crossed in
+          rw (room axis line, crossed) (same_state _ _ _ _ (ap (map_grid text_of) same.0) same.1)
+    ]
 
     merged : (axis : Axis) (e : Entity) → Merges text_of axis e g c h d → state_of text_of h d ≡ merge axis (state_of text_of g c) e
     merged axis e (cells, runs) = same_state _ _ _ _ (ap (map_grid text_of) cells) (is_merged axis e (map_grid text_of g) c d runs)
@@ -86,30 +82,28 @@ module _ {A : Type 0} (text_of : A → List ℕ) where
         at a b k l (inr low) m = rw (le-ltb a g.rows low) (joins.others a b k l (inl low))
         at a b k l (inl high) (inr right) = rw (lt-ltb a g.rows high, le-ltb b g.columns right) (joins.others a b k l (inr right))
 
+  -- what a change does on an entity is what its formula says
+  changed : (change : EntityChange) (e : Entity) (g : Grid A) (c : SpanMap) (h : Grid A) (d : SpanMap) → ChangeDoes text_of change e g c h d → state_of text_of h d ≡ after_change change (state_of text_of g c) e
+  changed (Rewrite f) e g c h d does = same_state _ _ _ _ does.0 does.1
+  changed (RewriteIf some f) e g c h d does = same_state _ _ _ _ does.0 does.1
+  changed (Span axis size) e g c h d does = same_state _ _ _ _ does.texts does.spans
+  changed (Merge axis) e g c h d does = merged g c h d axis e does
+
+  -- and so of an act
+  acted : (is_blank : A → Type 0) (act : Act) (g : Grid A) (c : SpanMap) (h : Grid A) (d : SpanMap) → ActDoes is_blank text_of act g c h d → state_of text_of h d ≡ after_act act (state_of text_of g c)
+  acted is_blank (ChangeEach change select) g c h d does = listed_is select (ChangeDoes text_of change) (after_change change) (changed change) g c h d does
+  acted is_blank (Duplicate destination source) g c h d does = duplicated g c h d destination source does
+  acted is_blank (PutPanel axis line text) g c h d does = panelled g c h d is_blank axis (line (map_grid text_of g)) text does
+  acted is_blank (MergeAll axis) g c h d does = merged g c h d axis Global does
+  acted is_blank (Rearrange _ how _) g c h d does = rearranged g c h d how does
+  acted is_blank (ReverseLines how) g c h d does = same_state _ _ _ _ (read_through text_of g h (reversed how.axis how.start how.limit g.rows g.columns) (λ p. (_, refl)) does.0) does.1
+  acted is_blank (CutLines how) g c h d does = same_state _ _ _ _ does.0.texts does.1
+  acted is_blank (JoinTable axis second default) g c h d does = same_state _ _ _ _ (joined_at g c h d is_blank axis second default does.0) does.1
+  acted is_blank (DoBoth first second) g c h d (m, k, one, other) = acted is_blank second m k h d other ∙ ap (after_act second) (acted is_blank first g c m k one)
+
   -- what a step does is what its formula says
   pub after_step : (is_blank : A → Type 0) (s : Step) (g : Grid A) (c : SpanMap) (h : Grid A) (d : SpanMap) → Does is_blank text_of s g c h d → state_of text_of h d ≡ after s (state_of text_of g c)
-  after_step is_blank (step.Set select text) g c h d does = listed_is select _ (set (string_bytes text)) (λ e g c h d w. same_state _ _ _ _ w.0 w.1) g c h d does
-  after_step is_blank (step.Dup destination source) g c h d does = duplicated g c h d destination source does
-  after_step is_blank (step.Charset charset select) g c h d does = listed_is select _ (recode charset) (λ e g c h d w. same_state _ _ _ _ w.0 w.1) g c h d does
-  after_step is_blank (step.Wrap how select) g c h d does = listed_is select _ (wrap how) (λ e g c h d w. same_state _ _ _ _ w.0 w.1) g c h d does
-  after_step is_blank (step.ColumnSpan size select) g c h d does = listed_is select _ (span Columns size) (λ e g c h d w. same_state _ _ _ _ w.texts w.spans) g c h d does
-  after_step is_blank (step.RowSpan size select) g c h d does = listed_is select _ (span Rows size) (λ e g c h d w. same_state _ _ _ _ w.texts w.spans) g c h d does
-  after_step is_blank (step.HorizontalPanel panel) g c h d does = panelled g c h d is_blank Rows panel.0 panel.1 does
-  after_step is_blank (step.VerticalPanel panel) g c h d does = panelled g c h d is_blank Columns panel.0 panel.1 does
-  after_step is_blank (step.Header text) g c h d does = panelled g c h d is_blank Rows 0 text does
-  after_step is_blank (step.Footer text) g c h d does = panelled g c h d is_blank Rows g.rows text does
-  after_step is_blank (step.MergeVertical _) g c h d does = merged g c h d Rows Global does
-  after_step is_blank (step.MergeHorizontal _) g c h d does = merged g c h d Columns Global does
-  after_step is_blank (step.Merge axis select) g c h d does = listed_is select _ (merge axis) (λ e g c h d w. merged g c h d axis e w) g c h d does
-  after_step is_blank (step.Rotate rotate) g c h d does = rearranged g c h d (rotated rotate) (total-rotated rotate g.rows g.columns) does
-  after_step is_blank (step.Reverse how) g c h d does = same_state _ _ _ _ (read_through text_of g h (reversed how.axis how.start how.limit g.rows g.columns) (λ p. (_, refl)) does.0) does.1
-  after_step is_blank (step.Split how) g c h d does = same_state _ _ _ _ does.0.texts does.1
-  after_step is_blank (step.Concat concat) g c h d does = same_state _ _ _ _ (joined_at g c h d is_blank concat.0 concat.1 concat.2 does.0) does.1
-  after_step is_blank (step.Extract a b k l) g c h d does = rearranged g c h d (extracted (half_open a b) (half_open k l)) (λ p. (_, refl)) does
-  after_step is_blank (step.RemoveRows a b) g c h d does = rearranged g c h d (removed Rows (indexes (half_open a b) g.rows)) (λ p. (_, refl)) does
-  after_step is_blank (step.RemoveColumns a b) g c h d does = rearranged g c h d (removed Columns (indexes (half_open a b) g.columns)) (λ p. (_, refl)) does
-  after_step is_blank (step.RemoveNamed name) g c h d does = rearranged g c h d (removed Columns (columns_with (string_bytes name) (map_grid text_of g))) (λ p. (_, refl)) does
-  after_step is_blank (step.Both' _ first _ second) g c h d (m, k, one, other) = after_step is_blank second m k h d other ∙ ap (after second) (after_step is_blank first g c m k one)
+  after_step is_blank s = acted is_blank (act_of s)
 
   -- what steps do, one after another
   pub after_each : (is_blank : A → Type 0) (steps : List Step) (g : Grid A) (c : SpanMap) (h : Grid A) (d : SpanMap) → Each (Does is_blank text_of) steps g c h d → state_of text_of h d ≡ after_all steps (state_of text_of g c)

@@ -4,6 +4,8 @@ use Rattle.tabled_grid.proofs.Resized.{IsEven-with_column, IsEven-with_row}
 use Rattle.tabled_settings.specs.declared.split.Split.{Split}
 use Rattle.tabled_settings.proofs.Glued.{split_glued}
 use Rattle.tabled_settings.proofs.PieceReads.{cut_even, turned_even}
+use Rattle.tabled_steps.specs.Kinds.{Act, ChangeEach, CutLines, DoBoth, Duplicate, EntityChange, JoinTable, Merge, MergeAll, PutPanel, Rearrange, ReverseLines, Rewrite, RewriteIf, Span, act_of, rewritten, rewritten_if}
+use Rattle.tabled_steps.specs.States.{after_act, after_change}
 use Rattle.tabled_steps.specs.declared.step.Step.TheVariants as step
 use Rattle.tabled_steps.proofs.TextReads.{IsEven-table_of}
 
@@ -23,65 +25,57 @@ even_on_each : (change : State → Entity → State) (select : Select) → ((e :
 even_on_each change select keeps s = even_each change keeps (selected s.texts select) s
 
 even_panel : (axis : Axis) (line : ℕ) (text : List ℕ) → Keeps (put_panel axis line text)
-even_panel axis line text s even = by axis (cases_Bool (has_room axis line s.texts s.spans))
+even_panel axis line text s even = if_room axis (cases_Bool (has_room axis line s.texts s.spans))
   where
     long : (n : ℕ) → 0 < n → length (text ∷ replicate (n - 1) []) ≡ n
     long n some = let none : List ℕ = [] in omega (arith, length-replicate (n - 1) none, some)
 
-    by : (axis : Axis) → (has_room axis line s.texts s.spans ≡ true) ⊎ (has_room axis line s.texts s.spans ≡ false) → IsEven (put_panel axis line text s).texts
-    by axis (inr crossed) = rw crossed even
-    by Rows (inl fits) =
+    if_room : (axis : Axis) → (has_room axis line s.texts s.spans ≡ true) ⊎ (has_room axis line s.texts s.spans ≡ false) → IsEven (put_panel axis line text s).texts
+    if_room axis (inr crossed) = rw crossed even
+    if_room Rows (inl fits) =
         let parts = and_parts _ _ fits in
         let some = ltb-true 0 s.texts.columns (and_parts _ _ parts.1).0 in
         rw fits (IsEven-with_row s.texts even line (text ∷ replicate (s.texts.columns - 1) []) (leb-true line s.texts.rows parts.0) (long s.texts.columns some))
-    by Columns (inl fits) =
+    if_room Columns (inl fits) =
         let parts = and_parts _ _ fits in
         let some = ltb-true 0 s.texts.rows (and_parts _ _ parts.1).0 in
         rw fits (IsEven-with_column s.texts line (text ∷ replicate (s.texts.rows - 1) []) (leb-true line s.texts.columns parts.0) (long s.texts.rows some) even)
 
 even_split : (how : Split) (g : Grid (List ℕ)) → IsEven g → IsEven (split how g)
-even_split how g even = by (cases_Bool (has_pieces how g.rows g.columns))
+even_split how g even = elim (cases_Bool (has_pieces how g.rows g.columns)) [
+  | inl some ↦ rw some (turned_cut how.lines (ltb-true 0 how.index (and_parts _ _ (and_parts _ _ some).1).0))
+  | inr none ↦ rw none even
+]
   where
     turned_cut : (axis : Axis) → 0 < how.index → IsEven (oriented axis (cut_rows how (oriented how.lines g)))
     turned_cut Rows index = cut_even how (oriented how.lines g)
     turned_cut Columns index = turned_even Columns (cut_rows how (oriented how.lines g)) (cut_even how (oriented how.lines g)) index
 
-    by : (has_pieces how g.rows g.columns ≡ true) ⊎ (has_pieces how g.rows g.columns ≡ false) → IsEven (split how g)
-    by (inl some) = rw some (turned_cut how.lines (ltb-true 0 how.index (and_parts _ _ (and_parts _ _ some).1).0))
-    by (inr none) = rw none even
-
 even_read : (from : Places) (s : State) → IsEven (read from s.texts)
 even_read from s = IsEven-table_of from.rows from.columns (λ (p : Position). unwrap_or (option_and_then (cell_at s.texts) (from.old_place p)) [])
-
-even_rearranged : (places : ℕ → ℕ → Places) → Keeps (rearrange places)
-even_rearranged places s even = even_read (places s.texts.rows s.texts.columns) s
 
 even_joined : (axis : Axis) (second : Grid (List ℕ)) (default : List ℕ) (g : Grid (List ℕ)) → IsEven (joined_tables axis second default g)
 even_joined axis second default g = let corner = corner_of axis g.rows g.columns in IsEven-table_of (max g.rows (corner.row + second.rows)) (max g.columns (corner.col + second.columns)) (λ (p : Position). cond (nat_lt p.row g.rows && nat_lt p.col g.columns) (text_at g p) (joined_text corner second default p.row p.col))
 
+even_changed : (change : EntityChange) (e : Entity) → Keeps (λ s. after_change change s e)
+even_changed (Rewrite f) e s = even_writes (rewritten f e s.texts) s.texts
+even_changed (RewriteIf some f) e s = even_writes (rewritten_if some f e s.texts) s.texts
+even_changed (Span axis size) e s = even_writes (span_writes axis size e s.texts) s.texts
+even_changed (Merge axis) e s = λ even. even
+
+even_acted : (act : Act) → Keeps (after_act act)
+even_acted (ChangeEach change select) = even_on_each (after_change change) select (even_changed change)
+even_acted (Duplicate destination source) = λ s. even_writes (dup_writes (selected s.texts source) (selected s.texts destination) s.texts) s.texts
+even_acted (PutPanel axis line text) = λ s. even_panel axis (line s.texts) text s
+even_acted (MergeAll axis) = λ s even. even
+even_acted (Rearrange _ how _) = λ s even. even_read (how.places s.texts) s
+even_acted (ReverseLines how) = λ s even. even_read (reversed how.axis how.start how.limit s.texts.rows s.texts.columns) s
+even_acted (CutLines how) = λ s. even_split how s.texts
+even_acted (JoinTable axis second default) = λ s even. even_joined axis second default s.texts
+even_acted (DoBoth first second) = λ s even. even_acted second (after_act first s) (even_acted first s even)
+
 pub even_after : (x : Step) → Keeps (after x)
-even_after (step.Set text_select text) = even_on_each _ text_select (λ e s. even_writes (text_writes (string_bytes text) e s.texts) s.texts)
-even_after (step.Dup destination source) = λ s. even_writes (dup_writes (selected s.texts source) (selected s.texts destination) s.texts) s.texts
-even_after (step.Charset charset select) = even_on_each _ select (λ e s. even_writes (charset_writes charset e s.texts) s.texts)
-even_after (step.Wrap how select) = even_on_each _ select (λ e s. even_writes (wrap_writes how e s.texts) s.texts)
-even_after (step.ColumnSpan size select) = even_on_each _ select (λ e s. even_writes (span_writes Columns size e s.texts) s.texts)
-even_after (step.RowSpan size select) = even_on_each _ select (λ e s. even_writes (span_writes Rows size e s.texts) s.texts)
-even_after (step.HorizontalPanel panel) = even_panel Rows panel.0 panel.1
-even_after (step.VerticalPanel panel) = even_panel Columns panel.0 panel.1
-even_after (step.Header text) = even_panel Rows 0 text
-even_after (step.Footer text) = λ s. even_panel Rows s.texts.rows text s
-even_after (step.MergeVertical _) = λ s even. even
-even_after (step.MergeHorizontal _) = λ s even. even
-even_after (step.Merge axis select) = even_on_each _ select (λ e s even. even)
-even_after (step.Rotate rotate) = even_rearranged (rotated rotate)
-even_after (step.Reverse how) = λ s even. even_read (reversed how.axis how.start how.limit s.texts.rows s.texts.columns) s
-even_after (step.Split how) = λ s. even_split how s.texts
-even_after (step.Concat concat) = λ s even. even_joined concat.0 concat.1 concat.2 s.texts
-even_after (step.Extract a b k l) = even_rearranged (extracted (half_open a b) (half_open k l))
-even_after (step.RemoveRows a b) = λ s. even_rearranged (removed Rows (indexes (half_open a b) s.texts.rows)) s
-even_after (step.RemoveColumns a b) = λ s. even_rearranged (removed Columns (indexes (half_open a b) s.texts.columns)) s
-even_after (step.RemoveNamed name) = λ s. even_rearranged (removed Columns (columns_with (string_bytes name) s.texts)) s
-even_after (step.Both' _ first _ second) = λ s even. even_after second (after first s) (even_after first s even)
+even_after x = even_acted (act_of x)
 
 pub even_after_all : (xs : List Step) → Keeps (after_all xs)
 even_after_all [] s even = even

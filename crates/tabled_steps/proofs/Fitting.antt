@@ -7,8 +7,9 @@ use Rattle.tabled_settings.proofs.WritersKeep.{duplicates_keep}
 use Rattle.tabled_spans.proofs.MergeGeometry.{fits_merged}
 use Rattle.tabled_spans.proofs.PanelGeometry.{panels_fit, same_fits}
 use Rattle.tabled_spans.proofs.SpanGeometry.{fits_spanned, option_keeps}
-use Rattle.tabled_steps.specs.Fitting.{KeepsCellsFitting}
-use Rattle.tabled_steps.specs.declared.step.Step.TheVariants as step
+use Rattle.tabled_steps.specs.Fitting.{ActKeepsCellsFitting, KeepsCellsFitting}
+use Rattle.tabled_steps.specs.Kinds.{Act, ChangeEach, CutLines, DoBoth, Duplicate, EntityChange, JoinTable, Merge, MergeAll, PutPanel, Rearrange, ReverseLines, Rewrite, RewriteIf, Span, act_of, rewritten, rewritten_if}
+use Rattle.tabled_steps.specs.Steps.{ActDoes, ActLeaves, ChangeDoes, ChangeLeaves}
 
 module _ {A : Type 0} (is_blank : A → Type 0) (text_of : A → List ℕ) where
   abbrev fitting : Grid A → SpanMap → Type 0
@@ -18,35 +19,28 @@ module _ {A : Type 0} (is_blank : A → Type 0) (text_of : A → List ℕ) where
   on_entities : (select : Select) (does leaves : Entity → Change A SpanMap) → ((e : Entity) → OptionKeeps fitting (does e) (leaves e)) → OptionKeeps fitting (EachListed (Names text_of select) does) (LeavesFirst text_of select does leaves)
   on_entities select does leaves keeps = keeps_copied fitting _ _ (keeps_listed fitting does _ (Names text_of select) (λ e. keeps_copied fitting (does e) (leaves e) (keeps e)))
 
-  panels : (axis : Axis) (line : Grid A → ℕ) (text : List ℕ) → OptionKeeps fitting (λ g. Panels is_blank text_of axis (line g) text g) Same
-  panels axis line text = record { done = λ g m h n fits does. panels_fit is_blank text_of axis (line g) text g m h n fits does; refused = same_fits }
-
   merges : (axis : Axis) (e : Entity) → OptionKeeps fitting (Merges text_of axis e) Same
   merges axis e = record { done = λ g m h n fits does. rw does.0 (fits_merged axis e (map_grid text_of g) m n does.1 fits); refused = same_fits }
 
+  change_keeps : (change : EntityChange) (e : Entity) (select : Select) → ActKeepsCellsFitting (ChangeEach change select) → OptionKeeps fitting (ChangeDoes text_of change e) (ChangeLeaves text_of change e)
+  change_keeps (Rewrite f) e select _ = writes_keep text_of (rewritten f e)
+  change_keeps (RewriteIf some f) e select _ = writes_keep text_of (rewritten_if some f e)
+  change_keeps (Span axis size) e select positive = option_keeps text_of axis size e Fits (fits_spanned axis size e positive)
+  change_keeps (Merge axis) e select _ = merges axis e
+
+  act_keeps : (act : Act) → ActKeepsCellsFitting act → OptionKeeps fitting (ActDoes is_blank text_of act) (ActLeaves is_blank text_of act)
+  act_keeps (ChangeEach change select) keeps = on_entities select (ChangeDoes text_of change) (ChangeLeaves text_of change) (λ e. change_keeps change e select keeps)
+  act_keeps (Duplicate destination source) _ = duplicates_keep text_of (Names text_of destination) (Names text_of source)
+  act_keeps (PutPanel axis line text) _ = record { done = λ g m h n fits does. panels_fit is_blank text_of axis (line (map_grid text_of g)) text g m h n fits does; refused = same_fits }
+  act_keeps (MergeAll axis) _ = merges axis Global
+  act_keeps (Rearrange _ how _) _ = rearranged_keeps (λ g. how.places (map_grid text_of g))
+  act_keeps (ReverseLines how) _ = reversal_keeps how
+  act_keeps (CutLines how) _ = split_keeps is_blank text_of how
+  act_keeps (JoinTable axis second default) _ = join_keeps is_blank text_of axis second default
+  act_keeps (DoBoth first second) both = keeps_in_order fitting _ _ _ _ (act_keeps first both.0) (act_keeps second both.1)
+
   pub step_keeps : (s : Step) → KeepsCellsFitting s → OptionKeeps fitting (Does is_blank text_of s) (Leaves is_blank text_of s)
-  step_keeps (step.Set select text) _ = on_entities select _ _ (λ e. writes_keep text_of (text_writes (string_bytes text) e))
-  step_keeps (step.Dup destination source) _ = duplicates_keep text_of (Names text_of destination) (Names text_of source)
-  step_keeps (step.Charset charset select) _ = on_entities select _ _ (λ e. writes_keep text_of (charset_writes charset e))
-  step_keeps (step.Wrap how select) _ = on_entities select _ _ (λ e. writes_keep text_of (wrap_writes how e))
-  step_keeps (step.ColumnSpan size select) positive = on_entities select _ _ (λ e. option_keeps text_of Columns size e Fits (fits_spanned Columns size e positive))
-  step_keeps (step.RowSpan size select) positive = on_entities select _ _ (λ e. option_keeps text_of Rows size e Fits (fits_spanned Rows size e positive))
-  step_keeps (step.HorizontalPanel panel) _ = panels Rows (λ g. panel.0) panel.1
-  step_keeps (step.VerticalPanel panel) _ = panels Columns (λ g. panel.0) panel.1
-  step_keeps (step.Header text) _ = panels Rows (λ g. 0) text
-  step_keeps (step.Footer text) _ = panels Rows (λ g. g.rows) text
-  step_keeps (step.MergeVertical _) _ = merges Rows Global
-  step_keeps (step.MergeHorizontal _) _ = merges Columns Global
-  step_keeps (step.Merge axis select) _ = on_entities select _ _ (merges axis)
-  step_keeps (step.Rotate rotate) _ = rearranged_keeps (λ g. rotated rotate g.rows g.columns)
-  step_keeps (step.Reverse how) _ = reversal_keeps how
-  step_keeps (step.Split how) _ = split_keeps is_blank text_of how
-  step_keeps (step.Concat concat) _ = join_keeps is_blank text_of concat.0 concat.1 concat.2
-  step_keeps (step.Extract a b k l) _ = rearranged_keeps (λ g. extracted (half_open a b) (half_open k l) g.rows g.columns)
-  step_keeps (step.RemoveRows a b) _ = rearranged_keeps (λ g. removed Rows (indexes (half_open a b) g.rows) g.rows g.columns)
-  step_keeps (step.RemoveColumns a b) _ = rearranged_keeps (λ g. removed Columns (indexes (half_open a b) g.columns) g.rows g.columns)
-  step_keeps (step.RemoveNamed name) _ = rearranged_keeps (λ g. removed Columns (columns_with (string_bytes name) (map_grid text_of g)) g.rows g.columns)
-  step_keeps (step.Both' _ first _ second) both = keeps_in_order fitting _ _ _ _ (step_keeps first both.0) (step_keeps second both.1)
+  step_keeps s = act_keeps (act_of s)
 
   refused_keeps : (steps : List Step) → AllByRecursion KeepsCellsFitting steps → AllByRecursion (λ s. OptionKeeps fitting (Does is_blank text_of s) (Refused is_blank text_of s)) steps
   refused_keeps [] all = tt

@@ -1,31 +1,25 @@
 -- What options do and leave on an entity depends on the places that it names.
 use Rattle.tabled_steps.proofs.Common.{[], ◌∙◌, ◌≡◌, ◌⊎◌, Axis, Bool, DoesFirstWrites, DoesWrites, Entity, FirstWrites, Grid, IsLocal, List, None, Option, Position, SpanMap, Spans, SpansFirst, Write, ap, at_each, back_of, cases_Bool, charset_writes, cond, count_of, drop_hidden, false, get, grown_each, hidden-from, hidden_by, inl, inr, inside, is_hidden, is_set, is_visible, map_grid, mapped_writes, pos, pull_writes, pulled_each, recoded, refl, same_map, shape_texts, span_writes, spanned, subst, suc, sym, text_writes, true, with_writes, wrap_writes, wrapped, ℕ, ℤ}
 use Rattle.tabled_grid.proofs.SpanMaps.{get-drop_hidden, kept}
+use Rattle.tabled_steps.proofs.LocalMerges.{local_merges}
+use Rattle.tabled_steps.specs.Kinds.{EntityChange, Merge, Rewrite, RewriteIf, Span, rewritten, rewritten_if}
+use Rattle.tabled_steps.specs.Steps.{ChangeDoes, ChangeLeaves}
 
 -- writes on an entity that depend on the places alone that it names, and are none where it names none
-pub record AreLocal (writes : Entity → Grid (List ℕ) → List Write) : Type 0 where
+record AreLocal (writes : Entity → Grid (List ℕ) → List Write) : Type 0 where
   pub alike : (e f : Entity) (g : Grid (List ℕ)) → inside e g.rows g.columns ≡ inside f g.rows g.columns → writes e g ≡ writes f g
   pub none : (e : Entity) (g : Grid (List ℕ)) → inside e g.rows g.columns ≡ [] → writes e g ≡ []
 
-pub local_text : (text : List ℕ) → AreLocal (text_writes text)
-local_text text = record { alike = λ e f g same. ap (at_each text) same; none = λ e g none. ap (at_each text) none }
+local_rewritten : (f : List ℕ → List ℕ) → AreLocal (rewritten f)
+local_rewritten f = record { alike = λ first second g same. ap (mapped_writes f g) same; none = λ e g none. ap (mapped_writes f g) none }
 
-pub local_charset : (charset : Bool × Option ℕ) → AreLocal (charset_writes charset)
-local_charset charset = record {
-  alike = λ e f g same. ap (λ ps. cond (is_set charset) (mapped_writes (recoded charset) g ps) []) same;
-  none = λ e g none. ap (λ ps. cond (is_set charset) (mapped_writes (recoded charset) g ps) []) none ∙ either g (is_set charset);
-}
-  where
-    either : (g : Grid (List ℕ)) (b : Bool) → cond b (mapped_writes (recoded charset) g []) [] ≡ []
-    either g true = refl
-    either g false = refl
-
-pub local_wrap : (how : ℕ × Bool) → AreLocal (wrap_writes how)
-local_wrap how = record { alike = λ e f g same. ap (mapped_writes (wrapped how) g) same; none = λ e g none. ap (mapped_writes (wrapped how) g) none }
+local_rewritten_if : (some : Bool) (f : List ℕ → List ℕ) → AreLocal (rewritten_if some f)
+local_rewritten_if true f = local_rewritten f
+local_rewritten_if false f = record { alike = λ first second g same. refl; none = λ e g none. refl }
 
 module _ {A : Type 0} (text_of : A → List ℕ) where
   -- writes of texts
-  pub local_writes : (writes : Entity → Grid (List ℕ) → List Write) → AreLocal writes → IsLocal (λ e. DoesWrites {A = A} {C = SpanMap} text_of (writes e)) (λ e. DoesFirstWrites text_of (writes e))
+  local_writes : (writes : Entity → Grid (List ℕ) → List Write) → AreLocal writes → IsLocal (λ e. DoesWrites {A = A} {C = SpanMap} text_of (writes e)) (λ e. DoesFirstWrites text_of (writes e))
   local_writes writes local = record {
     rows = λ e g c h d w. (shape_texts text_of (writes e (map_grid text_of g)) g h c d w.0 w.1).0;
     columns = λ e g c h d w. (shape_texts text_of (writes e (map_grid text_of g)) g h c d w.0 w.1).1;
@@ -46,16 +40,16 @@ local_span_writes axis size = record { alike = λ e f g same. ap (λ ps. pull_wr
 -- what is hidden once hidden anchors were dropped was hidden before
 hidden_before : (m : SpanMap) (p : Position) → is_hidden (drop_hidden m) p ≡ true → is_hidden m p ≡ true
 hidden_before m p hidden =
-    let by = hidden_by (drop_hidden m) p hidden in
-    hidden-from m by.anchor p by.size (kept m by.anchor by.size by.has).had by.holds by.other
+    let hider = hidden_by (drop_hidden m) p hidden in
+    hidden-from m hider.anchor p hider.size (kept m hider.anchor hider.size hider.has).had hider.holds hider.other
 
 -- hidden anchors that were dropped are dropped no more
 dropped_once : (m : SpanMap) → drop_hidden (drop_hidden m) ≡ drop_hidden m
-dropped_once m = same_map (drop_hidden (drop_hidden m)) (drop_hidden m) (λ q. get-drop_hidden (drop_hidden m) q ∙ by q (cases_Bool (is_hidden (drop_hidden m) q)))
+dropped_once m = same_map (drop_hidden (drop_hidden m)) (drop_hidden m) (λ q. get-drop_hidden (drop_hidden m) q ∙ stays q (cases_Bool (is_hidden (drop_hidden m) q)))
   where
-    by : (q : Position) → (is_hidden (drop_hidden m) q ≡ true) ⊎ (is_hidden (drop_hidden m) q ≡ false) → cond (is_visible (drop_hidden m) q) (get (drop_hidden m) q) None ≡ get (drop_hidden m) q
-    by q (inr shown) = rw shown refl
-    by q (inl hidden) =
+    stays : (q : Position) → (is_hidden (drop_hidden m) q ≡ true) ⊎ (is_hidden (drop_hidden m) q ≡ false) → cond (is_visible (drop_hidden m) q) (get (drop_hidden m) q) None ≡ get (drop_hidden m) q
+    stays q (inr shown) = rw shown refl
+    stays q (inl hidden) =
         let before = hidden_before m q hidden in
         let gone : get (drop_hidden m) q ≡ None = get-drop_hidden m q ∙ (rw before refl) in
         rw hidden (sym gone)
@@ -91,7 +85,7 @@ module _ {A : Type 0} (text_of : A → List ℕ) (axis : Axis) (size : ℤ) wher
         spans = dropped ∙ sym (dropped_once c) ∙ ap drop_hidden (sym dropped) ∙ sym (spanned_none axis size e h.rows h.columns d there);
       }
 
-  pub local_spans : IsLocal (Spans text_of axis size) (SpansFirst text_of axis size)
+  local_spans : IsLocal (Spans text_of axis size) (SpansFirst text_of axis size)
   local_spans = record {
     rows = λ e g c h d w. (shaped e g c h d w).0;
     columns = λ e g c h d w. (shaped e g c h d w).1;
@@ -103,3 +97,10 @@ module _ {A : Type 0} (text_of : A → List ℕ) (axis : Axis) (size : ℤ) wher
     again = again;
     left_alike = left_alike;
   }
+
+-- any change of an entity's cells
+pub local_change : {A : Type 0} (text_of : A → List ℕ) (change : EntityChange) → IsLocal (ChangeDoes text_of change) (ChangeLeaves text_of change)
+local_change text_of (Rewrite f) = local_writes text_of (rewritten f) (local_rewritten f)
+local_change text_of (RewriteIf some f) = local_writes text_of (rewritten_if some f) (local_rewritten_if some f)
+local_change text_of (Span axis size) = local_spans text_of axis size
+local_change text_of (Merge axis) = local_merges text_of axis

@@ -24,13 +24,13 @@ if_alike (Some x) (Some y) t = ap Some ((bytes_eq-Decides x y).0 t)
 module _ (axis : Axis) (entity : Entity) (g : Grid (List ℕ)) (m : SpanMap) where
   -- one map alone has the runs merged
   pub merged_alike : (n k : SpanMap) → MergesRuns axis entity g m n → MergesRuns axis entity g m k → n ≡ k
-  merged_alike n k first second = same_map n k (λ p. by p (first.each p) (second.each p))
+  merged_alike n k first second = same_map n k (λ p. same_size p (first.each p) (second.each p))
     where
-      by : (p : Position) → ((a : ℕ) × IsRun axis entity g m p a × (get n p ≡ Some (size_of_run axis a))) ⊎ (((a : ℕ) → IsRun axis entity g m p a → ⊥) × (get n p ≡ get m p)) → ((b : ℕ) × IsRun axis entity g m p b × (get k p ≡ Some (size_of_run axis b))) ⊎ (((b : ℕ) → IsRun axis entity g m p b → ⊥) × (get k p ≡ get m p)) → get n p ≡ get k p
-      by p (inl (a, run, has)) (inl (b, other, has_other)) = has ∙ ap (λ many. Some (size_of_run axis many)) (same_run axis entity g m p a b run other) ∙ sym has_other
-      by p (inl (a, run, has)) (inr (none, same)) = absurd (none a run)
-      by p (inr (none, same)) (inl (b, other, has_other)) = absurd (none b other)
-      by p (inr (none, same)) (inr (never, alike)) = same ∙ sym alike
+      same_size : (p : Position) → ((a : ℕ) × IsRun axis entity g m p a × (get n p ≡ Some (size_of_run axis a))) ⊎ (((a : ℕ) → IsRun axis entity g m p a → ⊥) × (get n p ≡ get m p)) → ((b : ℕ) × IsRun axis entity g m p b × (get k p ≡ Some (size_of_run axis b))) ⊎ (((b : ℕ) → IsRun axis entity g m p b → ⊥) × (get k p ≡ get m p)) → get n p ≡ get k p
+      same_size p (inl (a, run, has)) (inl (b, other, has_other)) = has ∙ ap (λ many. Some (size_of_run axis many)) (same_run axis entity g m p a b run other) ∙ sym has_other
+      same_size p (inl (a, run, has)) (inr (none, same)) = absurd (none a run)
+      same_size p (inr (none, same)) (inl (b, other, has_other)) = absurd (none b other)
+      same_size p (inr (none, same)) (inr (never, alike)) = same ∙ sym alike
 
   named-is : (p : Position) → IsNamed entity g p → is_named entity g p ≡ true
   named-is p h = and_from _ _ h.named (and_from _ _ (lt-ltb p.row g.rows h.inside.row) (lt-ltb p.col g.columns h.inside.col))
@@ -64,25 +64,25 @@ module _ (axis : Axis) (entity : Entity) (g : Grid (List ℕ)) (m : SpanMap) whe
   -- each cell of those that are counted joins the next one
   run_joins : (most : ℕ) (p : Position) (k : ℕ) → k + 1 < run_from most axis entity g m p → Joins axis entity g m (further axis k p)
   run_joins zero p k h = absurd (omega (arith, h))
-  run_joins (suc most) p k h = by (joins axis entity g m p) refl k h (λ i l. run_joins most (further axis 1 p) i l)
+  run_joins (suc most) p k h = joins_next (joins axis entity g m p) refl k h (λ i l. run_joins most (further axis 1 p) i l)
     where
-      by : (b : Bool) → joins axis entity g m p ≡ b → (k : ℕ) → k + 1 < cond (joins axis entity g m p) (suc (run_from most axis entity g m (further axis 1 p))) 1 → ((i : ℕ) → i + 1 < run_from most axis entity g m (further axis 1 p) → Joins axis entity g m (further axis i (further axis 1 p))) → Joins axis entity g m (further axis k p)
-      by true is zero h later = subst (Joins axis entity g m) (sym (further_none axis p)) (if_joins p is)
-      by true is (suc i) h later = let less = rw is at h in subst (Joins axis entity g m) (further_next axis i p) (later i (omega (arith, less)))
-      by false is i h later = let less = rw is at h in absurd (omega (arith, less))
+      joins_next : (b : Bool) → joins axis entity g m p ≡ b → (k : ℕ) → k + 1 < cond (joins axis entity g m p) (suc (run_from most axis entity g m (further axis 1 p))) 1 → ((i : ℕ) → i + 1 < run_from most axis entity g m (further axis 1 p) → Joins axis entity g m (further axis i (further axis 1 p))) → Joins axis entity g m (further axis k p)
+      joins_next true is zero h later = subst (Joins axis entity g m) (sym (further_none axis p)) (if_joins p is)
+      joins_next true is (suc i) h later = let less = rw is at h in subst (Joins axis entity g m) (further_next axis i p) (later i (omega (arith, less)))
+      joins_next false is i h later = let less = rw is at h in absurd (omega (arith, less))
 
   -- the last one joins none, or all of n were counted
   run_ends : (most : ℕ) (p : Position) → Joins axis entity g m (further axis (run_from most axis entity g m p - 1) p) → run_from most axis entity g m p ≡ most + 1
   run_ends zero p j = refl
-  run_ends (suc most) p j = by (joins axis entity g m p) refl j (some_run most (further axis 1 p)) (run_ends most (further axis 1 p))
+  run_ends (suc most) p j = ends_late (joins axis entity g m p) refl j (some_run most (further axis 1 p)) (run_ends most (further axis 1 p))
     where
-      by : (b : Bool) → joins axis entity g m p ≡ b → Joins axis entity g m (further axis (cond (joins axis entity g m p) (suc (run_from most axis entity g m (further axis 1 p))) 1 - 1) p) → 1 ≤ run_from most axis entity g m (further axis 1 p) → (Joins axis entity g m (further axis (run_from most axis entity g m (further axis 1 p) - 1) (further axis 1 p)) → run_from most axis entity g m (further axis 1 p) ≡ most + 1) → cond (joins axis entity g m p) (suc (run_from most axis entity g m (further axis 1 p))) 1 ≡ suc most + 1
-      by true is j some later =
+      ends_late : (b : Bool) → joins axis entity g m p ≡ b → Joins axis entity g m (further axis (cond (joins axis entity g m p) (suc (run_from most axis entity g m (further axis 1 p))) 1 - 1) p) → 1 ≤ run_from most axis entity g m (further axis 1 p) → (Joins axis entity g m (further axis (run_from most axis entity g m (further axis 1 p) - 1) (further axis 1 p)) → run_from most axis entity g m (further axis 1 p) ≡ most + 1) → cond (joins axis entity g m p) (suc (run_from most axis entity g m (further axis 1 p))) 1 ≡ suc most + 1
+      ends_late true is j some later =
           let at = rw is at j in
           let n = run_from most axis entity g m (further axis 1 p) in
           let same : further axis (suc n - 1) p ≡ further axis (n - 1) (further axis 1 p) = ap (λ k. further axis k p) (omega (arith, some)) ∙ sym (further_next axis (n - 1) p) in
           rw is (omega (arith, later (subst (Joins axis entity g m) same at)))
-      by false is j some later = let at = rw is at j in absurd (apart_if p is (subst (Joins axis entity g m) (further_none axis p) at))
+      ends_late false is j some later = let at = rw is at j in absurd (apart_if p is (subst (Joins axis entity g m) (further_none axis p) at))
 
   place_bound : (x : Axis) (p : Position) (k : ℕ) → IsInside g (further x 1 (further x k p)) → k + 1 < g.rows + g.columns
   place_bound Rows p k inside = omega (arith, inside.row, inside.col)
@@ -135,15 +135,15 @@ module _ (axis : Axis) (entity : Entity) (g : Grid (List ℕ)) (m : SpanMap) whe
   within p h = record { top = omega arith; bottom = omega (arith, h.inside.row); left = omega arith; right = omega (arith, h.inside.col) }
 
   one_place : (i j : ℕ) (es : List Rectangle) → RunsFrom axis entity g m table i (j + 1) es → RunsFrom axis entity g m table i j (run_at axis entity g m (place i j) ++ es)
-  one_place i j es so_far = by (joins axis entity g m (place i j)) (is_joined axis entity g m (place i j)) refl refl
+  one_place i j es so_far = put_if_begun (joins axis entity g m (place i j)) (is_joined axis entity g m (place i j)) refl refl
     where
-      by : (b c : Bool) → joins axis entity g m (place i j) ≡ b → is_joined axis entity g m (place i j) ≡ c → RunsFrom axis entity g m table i j (run_at axis entity g m (place i j) ++ es)
-      by true false t f =
+      put_if_begun : (b c : Bool) → joins axis entity g m (place i j) ≡ b → is_joined axis entity g m (place i j) ≡ c → RunsFrom axis entity g m table i j (run_at axis entity g m (place i j) ++ es)
+      put_if_begun true false t f =
           let here = (if_joins (place i j) t).here in
           rw (t, f) (run_put axis entity g m table i j es so_far (counted (place i j)) (two_at (g.rows + g.columns) (place i j) (omega (arith, here.inside.row)) t) (within (place i j) here) (found_at (place i j) f))
-      by true true t f = rw (t, f) (none_put axis entity g m table i j es so_far 0 (omega arith) (continued (place i j) f))
-      by false true t f = rw t (none_put axis entity g m table i j es so_far 0 (omega arith) (continued (place i j) f))
-      by false false t f = rw t (none_put axis entity g m table i j es so_far (counted (place i j)) (omega (arith, one_at (g.rows + g.columns) (place i j) t)) (found_at (place i j) f))
+      put_if_begun true true t f = rw (t, f) (none_put axis entity g m table i j es so_far 0 (omega arith) (continued (place i j) f))
+      put_if_begun false true t f = rw t (none_put axis entity g m table i j es so_far 0 (omega arith) (continued (place i j) f))
+      put_if_begun false false t f = rw t (none_put axis entity g m table i j es so_far (counted (place i j)) (omega (arith, one_at (g.rows + g.columns) (place i j) t)) (found_at (place i j) f))
 
   abbrev listed : List Position → List Rectangle
   listed = flat_map (run_at axis entity g m)

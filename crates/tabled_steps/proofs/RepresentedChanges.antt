@@ -52,7 +52,7 @@ module _ {A : Type 0} (does leaves : Entity → Change A SpanMap) (local : IsLoc
 
   refuses : (representatives es : List Entity) → Stand representatives es → Refuses representatives es
   refuses representatives [] none g c h d shape until = rw none at until
-  refuses representatives (e ∷ es) (f, fs, are, here, next) g c h d shape until = by (rw are at until) (λ m k first left. elim next [
+  refuses representatives (e ∷ es) (f, fs, are, here, next) g c h d shape until = refused_from_here (rw are at until) (λ m k first left. elim next [
     | inl rest ↦ refuses fs es rest m k h d (has_then f g c m k shape first) left
     | inr rest ↦ refuses (f ∷ fs) es rest.1 m k h d (has_then f g c m k shape first) (suc left.0, later_refused does (λ e. SameOr (leaves e)) f fs m k m k left.0 h d (local.again f g c m k (none_at f g shape rest.0) first) left.1)
   ])
@@ -62,9 +62,9 @@ module _ {A : Type 0} (does leaves : Entity → Change A SpanMap) (local : IsLoc
           let at_first : SameOr (leaves f) g c h d = rw (same_Some f x is, ← same.0, ← same.1) left in
           left_at e f g c h d shape here at_first
 
-      by : EachUntil does (λ e. SameOr (leaves e)) (f ∷ fs) g c h d → ((m : Grid A) (k : SpanMap) → does f g c m k → EachUntil does (λ e. SameOr (leaves e)) fs m k h d → EachUntil does (λ e. SameOr (leaves e)) es m k h d) → EachUntil does (λ e. SameOr (leaves e)) (e ∷ es) g c h d
-      by (zero, at) later = (zero, first_refused does (λ e. SameOr (leaves e)) e es g c h d (refused at.item at.is at.grid at.configuration at.before at.left))
-      by (suc i, at) later =
+      refused_from_here : EachUntil does (λ e. SameOr (leaves e)) (f ∷ fs) g c h d → ((m : Grid A) (k : SpanMap) → does f g c m k → EachUntil does (λ e. SameOr (leaves e)) fs m k h d → EachUntil does (λ e. SameOr (leaves e)) es m k h d) → EachUntil does (λ e. SameOr (leaves e)) (e ∷ es) g c h d
+      refused_from_here (zero, at) later = (zero, first_refused does (λ e. SameOr (leaves e)) e es g c h d (refused at.item at.is at.grid at.configuration at.before at.left))
+      refused_from_here (suc i, at) later =
           let m = at.before.0 in
           let k = at.before.1 in
           let rest = later m k at.before.2 (i, record { item = at.item; is = at.is; grid = at.grid; configuration = at.configuration; before = at.before.3; left = at.left }) in

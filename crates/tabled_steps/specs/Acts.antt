@@ -8,14 +8,15 @@ use Rattle.tabled_grid.specs.Spans.{SpanMap}
 use Rattle.tabled_grid.specs.declared.config.bounds.ToBounds.{Ghosts as BoundsOf}
 use Rattle.tabled_grid.specs.declared.records.axis.Axis.{Axis}
 use Rattle.tabled_grid.specs.declared.records.axis.Axis.TheVariants.{Rows, Columns}
-use Rattle.tabled_options.specs.Does.{Change, EachListed, EachListedUntil, SameOr}
+use Rattle.tabled_options.specs.Does.{Change, EachListed}
+use Rattle.tabled_options.specs.Shapes.{FitsAfter}
 use Rattle.tabled_options.specs.declared.cell_option.CellOption.{Ghosts as CellOptionOf}
 use Rattle.tabled_options.specs.declared.table_option.TableOption.{Ghosts as TableOptionOf}
 use Rattle.tabled_select.specs.Locators.{columns_with}
 use Rattle.tabled_select.specs.declared.location.Location.{Ghosts as LocationOf}
 use Rattle.tabled_select.specs.declared.object.Object.{Ghosts as ObjectOf}
 use Rattle.tabled_steps.specs.Selected.{half_open}
-use Rattle.tabled_steps.specs.Steps.{Does, Leaves, Names}
+use Rattle.tabled_steps.specs.Steps.{Does, Leaves, LeavesFirst, Names}
 use Rattle.tabled_steps.specs.declared.select.Select.{Select}
 use Rattle.tabled_steps.specs.declared.step.Step.{Step}
 use Rattle.tabled_steps.specs.declared.step.Step.TheVariants as step
@@ -27,6 +28,10 @@ Makes {A} {C} change other = (old : Grid A) (cfg : C) (new : Grid A) (new_cfg : 
 -- two relations hold of the same grids and lists
 abbrev pub ListTheSame : {A X : Type 0} → (Grid A → List X → Type 0) → (Grid A → List X → Type 0) → Type 0
 ListTheSame {A} {X} lists others = (g : Grid A) (items : List X) → (lists g items → others g items) × (others g items → lists g items)
+
+-- merged cells that fit the table do so after an option, whether it is done or refused
+abbrev pub FitsAfterOption : {X R D A : Type 0} → TableOptionOf X R SpanMap D A → X → Type 0
+FitsAfterOption how x = FitsAfter (how.does x) (how.leaves x)
 
 -- the step that takes away the rows, or the columns, of a range
 abbrev pub range_removed : Axis → ℕ → ℕ → Step
@@ -55,9 +60,9 @@ module _ {A : Type 0} (is_blank : A → Type 0) (text_of : A → List ℕ) where
   abbrev pub ActAs : {X R D : Type 0} → (X → Step) → TableOptionOf X R SpanMap D A → Type 0
   ActAs {X} step how = (x : X) → ActsAsOption (step x) how x
 
-  -- a kind of step with a selector acts as a kind of option on each entity that the selector lists
-  abbrev pub ActOnListed : {X R I : Type 0} → ObjectOf Select R I A → (X → Select → Step) → CellOptionOf X R SpanMap A → Type 0
-  ActOnListed {X} object step how = (x : X) (select : Select) → ActsAs (step x select) (EachListed (object.lists select) (how.does x)) (SameOr (EachListedUntil (object.lists select) (how.does x) (λ e. SameOr (how.leaves x e))))
+  -- a kind of step with a selector acts as a kind of option on each entity that the selector names
+  abbrev pub ActOnEach : {X R : Type 0} → (X → Select → Step) → CellOptionOf X R SpanMap A → Type 0
+  ActOnEach {X} step how = (x : X) (select : Select) → ActsAs (step x select) (EachListed (Names text_of select) (how.does x)) (LeavesFirst text_of select (how.does x) (how.leaves x))
 
   -- two steps in one act as two options one after the other, where each of the steps acts as its option
   abbrev pub InTurn : {X Y R D : Type 0} → TableOptionOf X R SpanMap D A → TableOptionOf Y R SpanMap D A → TableOptionOf (X × Y) R SpanMap D A → X → Y → Type 0

@@ -1,9 +1,11 @@
 pub mod Acts
 pub mod Fitting
+pub mod Groups
+pub mod Kinds
 pub mod MergedRuns
 pub mod Naming
-pub mod Groups
 pub mod Reads
+pub mod Rearrangements
 pub mod Selected
 pub mod States
 pub mod Steps

@@ -1,37 +1,34 @@
 -- The texts of a table and its merged cells, and what steps make of them.
 use Rattle.std.specs.Prelude.{◌≡◌, ◌<◌, ◌≤◌, ℕ, suc, ◌-◌, ℤ, if◌then◌else◌, Bool, List, [], ◌∷◌, ◌++◌, length, replicate, Option, take}
 use Rattle.std.specs.List.{fold}
-use Rattle.std.specs.String.{string_bytes}
-use Rattle.tabled_grid.specs.Bounds.{indexes}
+use Rattle.tabled_carry.specs.Images.{carried}
 use Rattle.tabled_grid.specs.Grid.{Grid, map_grid}
 use Rattle.tabled_grid.specs.Spans.{SpanMap, with_sizes}
 use Rattle.tabled_grid.specs.declared.config.entity.Entity.{Entity}
 use Rattle.tabled_grid.specs.declared.config.entity.Entity.TheVariants.{Global}
 use Rattle.tabled_grid.specs.declared.records.axis.Axis.{Axis}
-use Rattle.tabled_grid.specs.declared.records.axis.Axis.TheVariants.{Rows, Columns}
 use Rattle.tabled_options.specs.Does.{Change, Each, EachUntilAt}
-use Rattle.tabled_options.specs.Writes.{text_writes, with_writes}
-use Rattle.tabled_select.specs.Locators.{columns_with}
-use Rattle.tabled_settings.specs.Charsets.{charset_writes}
-use Rattle.tabled_settings.specs.Wraps.{wrap_writes}
+use Rattle.tabled_options.specs.Writes.{with_writes}
+use Rattle.tabled_settings.specs.Charsets.{is_set, recoded}
 use Rattle.tabled_settings.specs.Dups.{dup_writes}
-use Rattle.tabled_carry.specs.Images.{carried}
 use Rattle.tabled_settings.specs.Joined.{spans_of_join}
 use Rattle.tabled_settings.specs.PiecePlaces.{glued, spans_of_split}
 use Rattle.tabled_settings.specs.Pieces.{split}
-use Rattle.tabled_grid.specs.Places.{Places}
-use Rattle.tabled_settings.specs.Rearranged.{extracted, removed, reversed, rotated, spans_of_reversal}
+use Rattle.tabled_settings.specs.Rearranged.{reversed, spans_of_reversal}
 use Rattle.tabled_settings.specs.declared.reverse.Reverse.{Reverse}
 use Rattle.tabled_settings.specs.declared.split.Display.TheVariants.{Retain}
 use Rattle.tabled_settings.specs.declared.split.Split.{Split}
 use Rattle.tabled_spans.specs.Panels.{cells_along, has_room, with_line_at, with_panel}
 use Rattle.tabled_spans.specs.Spanned.{span_writes, spanned}
+use Rattle.tabled_steps.specs.Kinds.{Act, ChangeEach, CutLines, DoBoth, Duplicate, EntityChange, JoinTable, Merge, MergeAll, PutPanel, Rearrange, ReverseLines, Rewrite, RewriteIf, Span, act_of, rewritten, rewritten_if}
 use Rattle.tabled_steps.specs.MergedRuns.{runs}
 use Rattle.tabled_steps.specs.Reads.{joined_tables, read}
-use Rattle.tabled_steps.specs.Selected.{Named, half_open, named_by}
+use Rattle.tabled_steps.specs.Rearrangements.{Rearrangement}
+use Rattle.tabled_steps.specs.Selected.{Named, named_by}
 use Rattle.tabled_steps.specs.Steps.{Does, Leaves}
 use Rattle.tabled_steps.specs.declared.step.Step.{Step}
 use Rattle.tabled_steps.specs.declared.step.Step.TheVariants as step
+use Rattle.tabled_width.specs.Wraps.{wrapped}
 
 -- the texts of a table, and its merged cells
 pub record State : Type 0 where
@@ -42,17 +39,25 @@ pub record State : Type 0 where
 abbrev pub state_of : {A : Type 0} → (A → List ℕ) → Grid A → SpanMap → State
 state_of text_of g c = record { texts = map_grid text_of g; spans = c }
 
+-- what a function makes of each text that an entity names
+abbrev pub rewrite : (List ℕ → List ℕ) → State → Entity → State
+rewrite f s e = record s { texts = with_writes (rewritten f e s.texts) s.texts }
+
+-- the same, where some texts are written at all
+abbrev pub rewrite_if : Bool → (List ℕ → List ℕ) → State → Entity → State
+rewrite_if some f s e = record s { texts = with_writes (rewritten_if some f e s.texts) s.texts }
+
 -- a text in each cell that an entity names
 abbrev pub set : List ℕ → State → Entity → State
-set text s e = record s { texts = with_writes (text_writes text e s.texts) s.texts }
+set text = rewrite (λ _. text)
 
 -- the texts that an entity names, recoded
 abbrev pub recode : Bool × Option ℕ → State → Entity → State
-recode charset s e = record s { texts = with_writes (charset_writes charset e s.texts) s.texts }
+recode charset = rewrite_if (is_set charset) (recoded charset)
 
 -- the texts that an entity names, wrapped
 abbrev pub wrap : ℕ × Bool → State → Entity → State
-wrap how s e = record s { texts = with_writes (wrap_writes how e s.texts) s.texts }
+wrap how = rewrite (wrapped how)
 
 -- a span of a size on an entity
 abbrev pub span : Axis → ℤ → State → Entity → State
@@ -79,8 +84,8 @@ abbrev pub merge_all : Axis → State → State
 merge_all axis s = merge axis s Global
 
 -- the texts, read through a map of places, and the merged cells, carried along
-abbrev pub rearrange : (ℕ → ℕ → Places) → State → State
-rearrange places s = record { texts = read (places s.texts.rows s.texts.columns) s.texts; spans = carried (places s.texts.rows s.texts.columns) s.texts.rows s.texts.columns s.spans }
+abbrev pub rearrange : Rearrangement → State → State
+rearrange how s = let places = how.places s.texts in record { texts = read places s.texts; spans = carried places s.texts.rows s.texts.columns s.spans }
 
 -- lines in the opposite order, where the limit isn't past the table
 abbrev pub reverse : Reverse → State → State
@@ -94,39 +99,28 @@ cut_lines how s = record { texts = split how s.texts; spans = spans_of_split how
 abbrev pub join : Axis → Grid (List ℕ) → List ℕ → State → State
 join axis second default s = record { texts = joined_tables axis second default s.texts; spans = spans_of_join axis second s.texts.rows s.texts.columns s.spans }
 
--- the rows, or the columns, of a range taken away
-abbrev pub remove_range : Axis → ℕ → ℕ → State → State
-remove_range Rows a b s = rearrange (removed Rows (indexes (half_open a b) s.texts.rows)) s
-remove_range Columns a b s = rearrange (removed Columns (indexes (half_open a b) s.texts.columns)) s
+-- the state of an entity's cells after a change
+abbrev pub after_change : EntityChange → State → Entity → State
+after_change (Rewrite f) = rewrite f
+after_change (RewriteIf some f) = rewrite_if some f
+after_change (Span axis size) = span axis size
+after_change (Merge axis) = merge axis
 
--- the columns with a text in the first row taken away
-abbrev pub remove_named : List ℕ → State → State
-remove_named name s = rearrange (removed Columns (columns_with name s.texts)) s
+-- the state after an act
+abbrev pub after_act : Act → State → State
+after_act (ChangeEach change select) = on_each (after_change change) (named_by select)
+after_act (Duplicate destination source) = duplicate (named_by destination) (named_by source)
+after_act (PutPanel axis line text) = λ s. put_panel axis (line s.texts) text s
+after_act (MergeAll axis) = merge_all axis
+after_act (Rearrange _ how _) = rearrange how
+after_act (ReverseLines how) = reverse how
+after_act (CutLines how) = cut_lines how
+after_act (JoinTable axis second default) = join axis second default
+after_act (DoBoth first second) = λ s. after_act second (after_act first s)
 
 -- the state after a step
 abbrev pub after : Step → State → State
-after (step.Set select text) = on_each (set (string_bytes text)) (named_by select)
-after (step.Dup destination source) = duplicate (named_by destination) (named_by source)
-after (step.Charset charset select) = on_each (recode charset) (named_by select)
-after (step.Wrap how select) = on_each (wrap how) (named_by select)
-after (step.ColumnSpan size select) = on_each (span Columns size) (named_by select)
-after (step.RowSpan size select) = on_each (span Rows size) (named_by select)
-after (step.HorizontalPanel panel) = put_panel Rows panel.0 panel.1
-after (step.VerticalPanel panel) = put_panel Columns panel.0 panel.1
-after (step.Header text) = put_panel Rows 0 text
-after (step.Footer text) = λ s. put_panel Rows s.texts.rows text s
-after (step.MergeVertical _) = merge_all Rows
-after (step.MergeHorizontal _) = merge_all Columns
-after (step.Merge axis select) = on_each (merge axis) (named_by select)
-after (step.Rotate rotate) = rearrange (rotated rotate)
-after (step.Reverse how) = reverse how
-after (step.Split how) = cut_lines how
-after (step.Concat concat) = join concat.0 concat.1 concat.2
-after (step.Extract a b c d) = rearrange (extracted (half_open a b) (half_open c d))
-after (step.RemoveRows a b) = remove_range Rows a b
-after (step.RemoveColumns a b) = remove_range Columns a b
-after (step.RemoveNamed name) = remove_named (string_bytes name)
-after (step.Both' _ first _ second) = λ s. after second (after first s)
+after step = after_act (act_of step)
 
 -- the state after steps, in order
 abbrev pub after_all : List Step → State → State
@@ -137,11 +131,11 @@ after_all (x ∷ xs) s = after_all xs (after x s)
 abbrev pub Becomes : {A : Type 0} → (A → List ℕ) → (State → State) → Change A SpanMap
 Becomes text_of formula old cfg new new_cfg = state_of text_of new new_cfg ≡ formula (state_of text_of old cfg)
 
--- changes for each item, in stores of two kinds, make equal texts and merged cells of equal ones
-abbrev pub EndAlike : {A B X : Type 0} → (A → List ℕ) → (B → List ℕ) → (X → Change A SpanMap) → (X → Change B SpanMap) → List X → Type 0
-EndAlike {A} {B} text_of other_text_of does other_does items =
+-- steps on stores of two kinds make equal texts and merged cells of equal ones
+abbrev pub EndAlike : {A B : Type 0} → (A → Type 0) → (A → List ℕ) → (B → Type 0) → (B → List ℕ) → List Step → Type 0
+EndAlike {A} {B} is_blank text_of other_is_blank other_text_of steps =
     (old : Grid A) (cfg : SpanMap) (new : Grid A) (new_cfg : SpanMap) (other : Grid B) (other_cfg : SpanMap) (other_new : Grid B) (other_new_cfg : SpanMap)
-    → Each does items old cfg new new_cfg → Each other_does items other other_cfg other_new other_new_cfg
+    → Each (Does is_blank text_of) steps old cfg new new_cfg → Each (Does other_is_blank other_text_of) steps other other_cfg other_new other_new_cfg
     → state_of text_of old cfg ≡ state_of other_text_of other other_cfg → state_of text_of new new_cfg ≡ state_of other_text_of other_new other_new_cfg
 
 -- a table with a row and a column is the pieces of its split glued together, where all were kept

@@ -1,32 +1,25 @@
 -- What steps do to the cells and the merged cells of a table, and what they leave where memory is refused.
 use Rattle.std.specs.Prelude.{◌≡◌, ◌⊎◌, ℕ, false, IsSomeAnd, List, []}
-use Rattle.std.specs.String.{string_bytes}
 use Rattle.tabled_grid.specs.Entity.{inside}
+use Rattle.tabled_grid.specs.Fitting.{Fits}
 use Rattle.tabled_grid.specs.Grid.{Grid, map_grid}
 use Rattle.tabled_grid.specs.Spans.{SpanMap}
 use Rattle.tabled_grid.specs.declared.config.entity.Entity.{Entity}
 use Rattle.tabled_grid.specs.declared.config.entity.Entity.TheVariants.{Global}
-use Rattle.tabled_grid.specs.declared.records.axis.Axis.TheVariants.{Rows, Columns}
 use Rattle.tabled_options.specs.Does.{AfterNeverRefused, Change, EachListed, EachListedUntil, EachUntilAt, Same, SameOr, Then, ThenLeaves}
-use Rattle.tabled_options.specs.Writes.{DoesFirstWrites, DoesWrites, text_writes}
-use Rattle.tabled_select.specs.Locators.{columns_with}
-use Rattle.tabled_settings.specs.Charsets.{charset_writes, is_set}
-use Rattle.tabled_settings.specs.Wraps.{wrap_writes}
+use Rattle.tabled_options.specs.Writes.{DoesFirstWrites, DoesWrites}
 use Rattle.tabled_settings.specs.Dups.{Duplicates, DuplicatesFirst}
 use Rattle.tabled_settings.specs.Joined.{JoinsTables}
 use Rattle.tabled_settings.specs.PiecePlaces.{SplitsTable}
 use Rattle.tabled_settings.specs.Pieces.{has_pieces}
-use Rattle.tabled_grid.specs.Fitting.{Fits}
-use Rattle.tabled_settings.specs.Rearranged.{Rearranges, ReversesTable, extracted, removed, reverses, rotated}
-use Rattle.tabled_settings.specs.declared.rotate.Rotate.TheVariants.{Bottom, Top}
-use Rattle.tabled_grid.specs.Bounds.{indexes}
+use Rattle.tabled_settings.specs.Rearranged.{Rearranges, ReversesTable, reverses}
 use Rattle.tabled_spans.specs.Panels.{Panels, has_room}
 use Rattle.tabled_spans.specs.Runs.{Merges, NamesNoNeighbours}
 use Rattle.tabled_spans.specs.Spanned.{SpanTakesNoMemory, Spans, SpansFirst}
-use Rattle.tabled_steps.specs.Selected.{half_open, selected, single}
+use Rattle.tabled_steps.specs.Kinds.{Act, ChangeEach, CutLines, DoBoth, Duplicate, EntityChange, JoinTable, Merge, MergeAll, PutPanel, Rearrange, ReverseLines, Rewrite, RewriteIf, Span, act_of, rewritten, rewritten_if}
+use Rattle.tabled_steps.specs.Selected.{selected, single}
 use Rattle.tabled_steps.specs.declared.select.Select.{Select}
 use Rattle.tabled_steps.specs.declared.step.Step.{Step}
-use Rattle.tabled_steps.specs.declared.step.Step.TheVariants as step
 
 module _ {A : Type 0} (text_of : A → List ℕ) where
   -- these are the entities that a selector names in a table
@@ -37,62 +30,68 @@ module _ {A : Type 0} (text_of : A → List ℕ) where
   abbrev pub LeavesFirst : Select → (Entity → Change A SpanMap) → (Entity → Change A SpanMap) → Change A SpanMap
   LeavesFirst select does leaves = SameOr (EachListedUntil (Names select) does (λ e. SameOr (leaves e)))
 
+  -- what a change does on an entity
+  abbrev pub ChangeDoes : EntityChange → Entity → Change A SpanMap
+  ChangeDoes (Rewrite f) = λ e. DoesWrites text_of (rewritten f e)
+  ChangeDoes (RewriteIf some f) = λ e. DoesWrites text_of (rewritten_if some f e)
+  ChangeDoes (Span axis size) = Spans text_of axis size
+  ChangeDoes (Merge axis) = Merges text_of axis
+
+  -- what it leaves where it is refused
+  abbrev pub ChangeLeaves : EntityChange → Entity → Change A SpanMap
+  ChangeLeaves (Rewrite f) = λ e. DoesFirstWrites text_of (rewritten f e)
+  ChangeLeaves (RewriteIf some f) = λ e. DoesFirstWrites text_of (rewritten_if some f e)
+  ChangeLeaves (Span axis size) = SpansFirst text_of axis size
+  ChangeLeaves (Merge axis) = λ _. Same
+
+-- a change takes no memory on an entity, and so is not refused
+abbrev pub ChangeTakesNoMemory : {A : Type 0} → EntityChange → Grid A → Entity → Type 0
+ChangeTakesNoMemory (Rewrite _) g = λ e. inside e g.rows g.columns ≡ []
+ChangeTakesNoMemory (RewriteIf some _) g = λ e. (some ≡ false) ⊎ (inside e g.rows g.columns ≡ [])
+ChangeTakesNoMemory (Span axis size) g = λ e. SpanTakesNoMemory size e g.rows g.columns
+ChangeTakesNoMemory (Merge axis) g = λ e. NamesNoNeighbours axis e g
+
 module _ {A : Type 0} (is_blank : A → Type 0) (text_of : A → List ℕ) where
+  -- what an act does
+  abbrev pub ActDoes : Act → Change A SpanMap
+  ActDoes (ChangeEach change select) = EachListed (Names text_of select) (ChangeDoes text_of change)
+  ActDoes (Duplicate destination source) = Duplicates text_of (Names text_of destination) (Names text_of source)
+  ActDoes (PutPanel axis line text) = λ old. Panels is_blank text_of axis (line (map_grid text_of old)) text old
+  ActDoes (MergeAll axis) = Merges text_of axis Global
+  ActDoes (Rearrange _ how _) = λ old. Rearranges (how.places (map_grid text_of old)) old
+  ActDoes (ReverseLines how) = ReversesTable how
+  ActDoes (CutLines how) = SplitsTable is_blank text_of how
+  ActDoes (JoinTable axis second default) = JoinsTables is_blank text_of axis second default
+  ActDoes (DoBoth first second) = Then (ActDoes first) (ActDoes second)
+
+  -- what a refused one leaves
+  abbrev pub ActLeaves : Act → Change A SpanMap
+  ActLeaves (ChangeEach change select) = LeavesFirst text_of select (ChangeDoes text_of change) (ChangeLeaves text_of change)
+  ActLeaves (Duplicate destination source) = DuplicatesFirst text_of (Names text_of destination) (Names text_of source)
+  ActLeaves (DoBoth first second) = ThenLeaves (ActDoes first) (ActLeaves first) (ActLeaves second)
+  ActLeaves _ = Same
+
+  -- an act takes no memory on a table: with a selector, on a single entity
+  abbrev pub ActTakesNoMemory : Act → Grid A → SpanMap → Type 0
+  ActTakesNoMemory (ChangeEach change select) old cfg = IsSomeAnd (single select) (ChangeTakesNoMemory change old)
+  ActTakesNoMemory (PutPanel axis line _) old cfg = has_room axis (line (map_grid text_of old)) old cfg ≡ false
+  ActTakesNoMemory (Rearrange _ _ takes_none) old cfg = takes_none (map_grid text_of old) cfg
+  ActTakesNoMemory (ReverseLines how) old cfg = (reverses how.axis how.start how.limit old.rows old.columns ≡ false) ⊎ Fits cfg old.rows old.columns
+  ActTakesNoMemory (CutLines how) old cfg = has_pieces how old.rows old.columns ≡ false
+  ActTakesNoMemory (DoBoth first second) old cfg = ActTakesNoMemory first old cfg × AfterNeverRefused (ActDoes first) (ActTakesNoMemory second) old cfg
+  ActTakesNoMemory _ old cfg = ⊥
+
   -- what a step does
   abbrev pub Does : Step → Change A SpanMap
-  Does (step.Set select text) = EachListed (Names text_of select) (λ e. DoesWrites text_of (text_writes (string_bytes text) e))
-  Does (step.Dup destination source) = Duplicates text_of (Names text_of destination) (Names text_of source)
-  Does (step.Charset charset select) = EachListed (Names text_of select) (λ e. DoesWrites text_of (charset_writes charset e))
-  Does (step.Wrap wrap select) = EachListed (Names text_of select) (λ e. DoesWrites text_of (wrap_writes wrap e))
-  Does (step.ColumnSpan size select) = EachListed (Names text_of select) (Spans text_of Columns size)
-  Does (step.RowSpan size select) = EachListed (Names text_of select) (Spans text_of Rows size)
-  Does (step.HorizontalPanel panel) = Panels is_blank text_of Rows panel.0 panel.1
-  Does (step.VerticalPanel panel) = Panels is_blank text_of Columns panel.0 panel.1
-  Does (step.Header text) = Panels is_blank text_of Rows 0 text
-  Does (step.Footer text) = λ old. Panels is_blank text_of Rows old.rows text old
-  Does (step.MergeVertical _) = Merges text_of Rows Global
-  Does (step.MergeHorizontal _) = Merges text_of Columns Global
-  Does (step.Merge axis select) = EachListed (Names text_of select) (Merges text_of axis)
-  Does (step.Rotate rotate) = λ old. Rearranges (rotated rotate old.rows old.columns) old
-  Does (step.Reverse reverse) = ReversesTable reverse
-  Does (step.Split split) = SplitsTable is_blank text_of split
-  Does (step.Concat concat) = JoinsTables is_blank text_of concat.0 concat.1 concat.2
-  Does (step.Extract a b c d) = λ old. Rearranges (extracted (half_open a b) (half_open c d) old.rows old.columns) old
-  Does (step.RemoveRows a b) = λ old. Rearranges (removed Rows (indexes (half_open a b) old.rows) old.rows old.columns) old
-  Does (step.RemoveColumns a b) = λ old. Rearranges (removed Columns (indexes (half_open a b) old.columns) old.rows old.columns) old
-  Does (step.RemoveNamed name) = λ old. Rearranges (removed Columns (columns_with (string_bytes name) (map_grid text_of old)) old.rows old.columns) old
-  Does (step.Both' _ first _ second) = Then (Does first) (Does second)
+  Does step = ActDoes (act_of step)
 
   -- what a refused step leaves
   abbrev pub Leaves : Step → Change A SpanMap
-  Leaves (step.Set select text) = LeavesFirst text_of select (λ e. DoesWrites text_of (text_writes (string_bytes text) e)) (λ e. DoesFirstWrites text_of (text_writes (string_bytes text) e))
-  Leaves (step.Dup destination source) = DuplicatesFirst text_of (Names text_of destination) (Names text_of source)
-  Leaves (step.Charset charset select) = LeavesFirst text_of select (λ e. DoesWrites text_of (charset_writes charset e)) (λ e. DoesFirstWrites text_of (charset_writes charset e))
-  Leaves (step.Wrap wrap select) = LeavesFirst text_of select (λ e. DoesWrites text_of (wrap_writes wrap e)) (λ e. DoesFirstWrites text_of (wrap_writes wrap e))
-  Leaves (step.ColumnSpan size select) = LeavesFirst text_of select (Spans text_of Columns size) (SpansFirst text_of Columns size)
-  Leaves (step.RowSpan size select) = LeavesFirst text_of select (Spans text_of Rows size) (SpansFirst text_of Rows size)
-  Leaves (step.Merge axis select) = LeavesFirst text_of select (Merges text_of axis) (λ _. Same)
-  Leaves (step.Both' _ first _ second) = ThenLeaves (Does first) (Leaves first) (Leaves second)
-  Leaves _ = Same
+  Leaves step = ActLeaves (act_of step)
 
-  -- a step that takes no memory on a table, and so is not refused: with a selector, on a single entity
+  -- a step that takes no memory on a table, and so is not refused
   abbrev pub TakesNoMemory : Step → Grid A → SpanMap → Type 0
-  TakesNoMemory (step.Set select _) old cfg = IsSomeAnd (single select) (λ e. inside e old.rows old.columns ≡ [])
-  TakesNoMemory (step.Charset charset select) old cfg = IsSomeAnd (single select) (λ e. (is_set charset ≡ false) ⊎ (inside e old.rows old.columns ≡ []))
-  TakesNoMemory (step.Wrap _ select) old cfg = IsSomeAnd (single select) (λ e. inside e old.rows old.columns ≡ [])
-  TakesNoMemory (step.ColumnSpan size select) old cfg = IsSomeAnd (single select) (λ e. SpanTakesNoMemory size e old.rows old.columns)
-  TakesNoMemory (step.RowSpan size select) old cfg = IsSomeAnd (single select) (λ e. SpanTakesNoMemory size e old.rows old.columns)
-  TakesNoMemory (step.Merge axis select) old cfg = IsSomeAnd (single select) (λ e. NamesNoNeighbours axis e old)
-  TakesNoMemory (step.HorizontalPanel panel) old cfg = has_room Rows panel.0 old cfg ≡ false
-  TakesNoMemory (step.VerticalPanel panel) old cfg = has_room Columns panel.0 old cfg ≡ false
-  TakesNoMemory (step.Header _) old cfg = has_room Rows 0 old cfg ≡ false
-  TakesNoMemory (step.Footer _) old cfg = has_room Rows old.rows old cfg ≡ false
-  TakesNoMemory (step.Rotate rotate) old cfg = ((rotate ≡ Top) ⊎ (rotate ≡ Bottom)) × Fits cfg old.rows old.columns
-  TakesNoMemory (step.Reverse r) old cfg = (reverses r.axis r.start r.limit old.rows old.columns ≡ false) ⊎ Fits cfg old.rows old.columns
-  TakesNoMemory (step.Extract _ _ _ _) old cfg = Fits cfg old.rows old.columns
-  TakesNoMemory (step.Split split) old cfg = has_pieces split old.rows old.columns ≡ false
-  TakesNoMemory (step.Both' _ first _ second) old cfg = TakesNoMemory first old cfg × AfterNeverRefused (Does first) (TakesNoMemory second) old cfg
-  TakesNoMemory _ old cfg = ⊥
+  TakesNoMemory step = ActTakesNoMemory (act_of step)
 
   -- a step that takes memory is refused, and leaves what it leaves
   abbrev pub Refused : Step → Change A SpanMap

@@ -7,13 +7,13 @@ ghost use Rattle.tabled_grid.specs.declared.config.entity.Entity.{Entity};
 ghost use Rattle.tabled_grid.specs.declared.records.axis.Axis.{Axis};
 ghost use Rattle.tabled_grid.specs.declared.records.axis.Axis.TheVariants.{Columns, Rows};
 ghost use Rattle.tabled_options.specs.Does.{Each};
-ghost use Rattle.tabled_options.specs.Shapes.{FitsAfter};
 ghost use Rattle.tabled_spans.specs.Runs.{MergesRuns};
-ghost use Rattle.tabled_steps.specs.Acts.{ActAs, ActOnListed, ActOnObjects, ActWithin, InTurn, Makes, RemovesNamed, RemovesRange};
+ghost use Rattle.tabled_steps.specs.Acts.{ActAs, ActOnEach, ActOnObjects, ActWithin, FitsAfterOption, InTurn, ListTheSame, Makes, RemovesNamed, RemovesRange};
 ghost use Rattle.tabled_steps.specs.Fitting.{KeepsCellsFitting};
 ghost use Rattle.tabled_steps.specs.MergedRuns.{runs};
 ghost use Rattle.tabled_steps.specs.States.{Becomes, EndAlike, State, after, after_all};
-ghost use Rattle.tabled_steps.specs.Steps.{Does};
+ghost use Rattle.tabled_steps.specs.Steps.{Does, Names};
+ghost use Rattle.tabled_steps.specs.declared.select.Select.{Select};
 ghost use Rattle.tabled_steps.specs.declared.step.Step.{Step};
 ghost use Rattle.tabled_steps.specs.declared.step.Step.TheVariants as step;
 
@@ -66,7 +66,7 @@ pub fn stores_end_alike<A: GridStore, B: GridStore>()
 where
     A::Cell: CellText,
     B::Cell: CellText,
-    ensures alike { (steps : List Step) → EndAlike A.Cell.text_of B.Cell.text_of (Does A.Cell.is_blank A.Cell.text_of) (Does B.Cell.is_blank B.Cell.text_of) steps }
+    ensures alike { (steps : List Step) → EndAlike A.Cell.is_blank A.Cell.text_of B.Cell.is_blank B.Cell.text_of steps }
 {}
 
 /// Steps but spans of size 0 or below keep merged cells inside the table and apart, also where they are
@@ -75,22 +75,23 @@ pub fn steps_keep_merged_cells_fitting<R, D>(_step: &Step)
 where
     R: Records + ExactRecords + PeekableRecords + RecordsMut<String> + Resizable,
     R::Cell: CellText,
-    ensures table { let how = ⟦<Step as TableOption<R, SpannedConfig, D>>⟧ in KeepsCellsFitting _step.now → FitsAfter (how.does _step.now) (how.leaves _step.now) }
+    ensures table { KeepsCellsFitting _step.now → FitsAfterOption ⟦<Step as TableOption<R, SpannedConfig, D>>⟧ _step.now }
 {}
 
 /// A step with a selector does, and refused leaves, what its option does and leaves on each entity that the
-/// selector names.
+/// selector names, which are those that it lists.
 pub fn steps_do_what_cell_options_do<R>()
 where
     R: Records + ExactRecords + PeekableRecords + RecordsMut<String> + Resizable,
     R::Cell: CellText,
-    ensures set { ActOnListed R.Cell.is_blank R.Cell.text_of ⟦<Select as Object<R>>⟧ (λ text to. step.Set to text) ⟦<String as CellOption<R, SpannedConfig>>⟧ }
-    ensures charset { ActOnListed R.Cell.is_blank R.Cell.text_of ⟦<Select as Object<R>>⟧ step.Charset ⟦<Charset as CellOption<R, SpannedConfig>>⟧ }
-    ensures wrap { ActOnListed R.Cell.is_blank R.Cell.text_of ⟦<Select as Object<R>>⟧ step.Wrap ⟦<Wrap as CellOption<R, SpannedConfig>>⟧ }
-    ensures column_span { ActOnListed R.Cell.is_blank R.Cell.text_of ⟦<Select as Object<R>>⟧ step.ColumnSpan ⟦<ColumnSpan as CellOption<R, SpannedConfig>>⟧ }
-    ensures row_span { ActOnListed R.Cell.is_blank R.Cell.text_of ⟦<Select as Object<R>>⟧ step.RowSpan ⟦<RowSpan as CellOption<R, SpannedConfig>>⟧ }
-    ensures merge_vertical { ActOnListed R.Cell.is_blank R.Cell.text_of ⟦<Select as Object<R>>⟧ (λ _ to. step.Merge Rows to) ⟦<MergeDuplicatesVertical as CellOption<R, SpannedConfig>>⟧ }
-    ensures merge_horizontal { ActOnListed R.Cell.is_blank R.Cell.text_of ⟦<Select as Object<R>>⟧ (λ _ to. step.Merge Columns to) ⟦<MergeDuplicatesHorizontal as CellOption<R, SpannedConfig>>⟧ }
+    ensures lists { let object = ⟦<Select as Object<R>>⟧ in (select : Select) → ListTheSame (object.lists select) (Names R.Cell.text_of select) }
+    ensures set { ActOnEach R.Cell.is_blank R.Cell.text_of (λ text to. step.Set to text) ⟦<String as CellOption<R, SpannedConfig>>⟧ }
+    ensures charset { ActOnEach R.Cell.is_blank R.Cell.text_of step.Charset ⟦<Charset as CellOption<R, SpannedConfig>>⟧ }
+    ensures wrap { ActOnEach R.Cell.is_blank R.Cell.text_of step.Wrap ⟦<Wrap as CellOption<R, SpannedConfig>>⟧ }
+    ensures column_span { ActOnEach R.Cell.is_blank R.Cell.text_of step.ColumnSpan ⟦<ColumnSpan as CellOption<R, SpannedConfig>>⟧ }
+    ensures row_span { ActOnEach R.Cell.is_blank R.Cell.text_of step.RowSpan ⟦<RowSpan as CellOption<R, SpannedConfig>>⟧ }
+    ensures merge_vertical { ActOnEach R.Cell.is_blank R.Cell.text_of (λ _. step.Merge Rows) ⟦<MergeDuplicatesVertical as CellOption<R, SpannedConfig>>⟧ }
+    ensures merge_horizontal { ActOnEach R.Cell.is_blank R.Cell.text_of (λ _. step.Merge Columns) ⟦<MergeDuplicatesHorizontal as CellOption<R, SpannedConfig>>⟧ }
 {}
 
 /// A step around an option on tables does, and refused leaves, what the option does and leaves.

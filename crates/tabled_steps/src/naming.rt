@@ -44,18 +44,18 @@ impl Step {
         ensures { IfOk result (λ nothing. nothing ≡ names_nothing self.now (map_grid R.Cell.text_of (R.grid records.now))) }
     {
         match self {
-            Step::Set(select, _) => select.names_none(alloc, records),
+            Step::Set(select, _)
+            | Step::Charset(_, select)
+            | Step::Wrap(_, select)
+            | Step::ColumnSpan(_, select)
+            | Step::RowSpan(_, select)
+            | Step::Merge(_, select) => select.names_none(alloc, records),
             Step::Dup(destination, source) => {
                 if destination.names_none(alloc, records)? {
                     return Ok(true);
                 }
                 source.names_none(alloc, records)
             }
-            Step::Charset(_, select) => select.names_none(alloc, records),
-            Step::Wrap(_, select) => select.names_none(alloc, records),
-            Step::ColumnSpan(_, select) => select.names_none(alloc, records),
-            Step::RowSpan(_, select) => select.names_none(alloc, records),
-            Step::Merge(_, select) => select.names_none(alloc, records),
             Step::Extract(a, b, c, d) => {
                 Select::Segment(*a, *b, *c, *d).names_none(alloc, records)
             }

@@ -7,6 +7,7 @@ pub returns : goal.returns
 returns g c =
     let text_of = g.R.Cell.CellText.text_of in
     record {
+      lists = λ select. (λ old items. ((λ names. names), λ names. names));
       set = λ text select. acts g.R.Cell.Blank.is_blank text_of (step.Set select text);
       charset = λ charset select. acts g.R.Cell.Blank.is_blank text_of (step.Charset charset select);
       wrap = λ how select. acts g.R.Cell.Blank.is_blank text_of (step.Wrap how select);

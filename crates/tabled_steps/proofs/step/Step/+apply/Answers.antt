@@ -1,13 +1,13 @@
-use Rattle.tabled_steps.proofs.Common.{Columns, IfErr-weaker, Rows, charset_writes, inr, on_err_weaker, on_ok_weaker, rules, string_bytes, text_writes, w64, wrap_writes}
+use Rattle.tabled_steps.proofs.Common.{Columns, IfErr-weaker, Rows, inr, is_set, on_err_weaker, on_ok_weaker, recoded, rules, string_bytes, w64, wrapped}
 use Rattle.std.proofs.lemmas.Int.{to_z-of_z}
 use mir.Val.{SFits}
-use Rattle.tabled_steps.proofs.LocalChanges.{local_charset, local_spans, local_text, local_wrap, local_writes}
-use Rattle.tabled_steps.proofs.LocalMerges.{local_merges}
+use Rattle.tabled_steps.proofs.LocalChanges.{local_change}
 use Rattle.tabled_steps.proofs.RepresentedPlaces.{duplicated_represented, duplicated_represented_refused}
+use Rattle.tabled_steps.specs.Kinds.{Merge, Rewrite, RewriteIf, Span}
 use Rattle.tabled_steps.proofs.step.Step.+apply.Goals as goal
 
 pub change_each-requires-clause-local : goal.change_each-requires-clause-local
-change_each-requires-clause-local g n c = local_writes g.R.Cell.CellText.text_of (text_writes (string_bytes c.in-Set.text)) (local_text (string_bytes c.in-Set.text))
+change_each-requires-clause-local g n c = local_change g.R.Cell.CellText.text_of (Rewrite (λ _. string_bytes c.in-Set.text))
 
 pub returns-in-Dup-clause-ok : goal.returns-in-Dup-clause-ok
 returns-in-Dup-clause-ok g n c = rw c.in-Dup.is (on_ok_weaker c.change.result (λ did. duplicated_represented g.R.Cell.CellText.text_of c.in-Dup.destination c.in-Dup.source _ _ _ _ did) (rw c.new.ensures at c.change.ensures.ok))
@@ -16,16 +16,16 @@ pub returns-in-Dup-clause-err : goal.returns-in-Dup-clause-err
 returns-in-Dup-clause-err g n c = rw c.in-Dup.is (on_err_weaker c.change.result (λ left. duplicated_represented_refused g.R.Cell.CellText.text_of c.in-Dup.destination c.in-Dup.source _ _ _ _ left) (rw c.new.ensures at c.change.ensures.err))
 
 pub change_each-requires-in-Charset-clause-local : goal.change_each-requires-in-Charset-clause-local
-change_each-requires-in-Charset-clause-local g n c = local_writes g.R.Cell.CellText.text_of (charset_writes c.in-Charset.charset) (local_charset c.in-Charset.charset)
+change_each-requires-in-Charset-clause-local g n c = local_change g.R.Cell.CellText.text_of (RewriteIf (is_set c.in-Charset.charset) (recoded c.in-Charset.charset))
 
 pub change_each-requires-in-Wrap-clause-local : goal.change_each-requires-in-Wrap-clause-local
-change_each-requires-in-Wrap-clause-local g n c = local_writes g.R.Cell.CellText.text_of (wrap_writes c.in-Wrap.wrap) (local_wrap c.in-Wrap.wrap)
+change_each-requires-in-Wrap-clause-local g n c = local_change g.R.Cell.CellText.text_of (Rewrite (wrapped c.in-Wrap.wrap))
 
 pub change_each-requires-in-ColumnSpan-clause-local : goal.change_each-requires-in-ColumnSpan-clause-local
-change_each-requires-in-ColumnSpan-clause-local g n c = local_spans g.R.Cell.CellText.text_of Columns c.column.result
+change_each-requires-in-ColumnSpan-clause-local g n c = local_change g.R.Cell.CellText.text_of (Span Columns c.column.result)
 
 pub change_each-requires-in-RowSpan-clause-local : goal.change_each-requires-in-RowSpan-clause-local
-change_each-requires-in-RowSpan-clause-local g n c = local_spans g.R.Cell.CellText.text_of Rows c.row.result
+change_each-requires-in-RowSpan-clause-local g n c = local_change g.R.Cell.CellText.text_of (Span Rows c.row.result)
 
 pub returns-in-ColumnSpan-clause-ok : goal.returns-in-ColumnSpan-clause-ok
 returns-in-ColumnSpan-clause-ok g n c =
@@ -48,10 +48,10 @@ returns-in-RowSpan-clause-err g n c =
     rw c.in-RowSpan.is (rw (c.row.ensures, to_z-of_z w64 c.in-RowSpan.size fits) at c.change_each-in-RowSpan.ensures.err)
 
 pub change_each-requires-in-Rows-clause-local : goal.change_each-requires-in-Rows-clause-local
-change_each-requires-in-Rows-clause-local g n c = local_merges g.R.Cell.CellText.text_of Rows
+change_each-requires-in-Rows-clause-local g n c = local_change g.R.Cell.CellText.text_of (Merge Rows)
 
 pub change_each-requires-in-Columns-clause-local : goal.change_each-requires-in-Columns-clause-local
-change_each-requires-in-Columns-clause-local g n c = local_merges g.R.Cell.CellText.text_of Columns
+change_each-requires-in-Columns-clause-local g n c = local_change g.R.Cell.CellText.text_of (Merge Columns)
 
 pub returns-in-Rows-clause-ok : goal.returns-in-Rows-clause-ok
 returns-in-Rows-clause-ok g n c = rw (c.in-Merge.is, c.in-Rows.is) c.change_each-in-Rows.ensures.ok
