@@ -1,5 +1,5 @@
 -- What a step does to a store is what its formula makes of the store's texts and merged cells.
-use Rattle.tabled_steps.proofs.Common.{[], ◌&&◌, ◌<◌, ◌∙◌, ◌∷◌, ◌≡◌, ◌≤◌, ◌⊎◌, Axis, Change, Columns, Does, Duplicates, Each, EachListed, Entity, Grid, IsEven-map_grid, JoinsAt, List, Merges, Names, Panels, Places, Position, Rearranges, Rows, Select, Some, SpanMap, State, Step, Write, after, after_all, ap, ap₂, arith, cases_Bool, cases_lt, cell_at, cells_along, columns_with, cond, corner_of, dup_writes, duplicate, extracted, false, fold, half_open, has_room, indexes, inl, inr, joined_tables, joined_text, le-ltb, lt-ltb, map, map_grid, merge, named_by, nat_lt, on_each, place, put_panel, rearrange, recode, wrap, refl, removed, reversed, rotated, rounds, selected, set, source_texts, span, state_of, string_bytes, true, unwrap_or, with_line_at, with_writes, ℕ}
+use Rattle.tabled_steps.proofs.Common.{[], ◌&&◌, ◌<◌, ◌∙◌, ◌∷◌, ◌≡◌, ◌≤◌, ◌⊎◌, Axis, Change, Columns, Does, Duplicates, Each, EachListed, Entity, Grid, IsEven-map_grid, JoinsAt, List, Merges, Names, Panels, Position, Rearranges, Rows, Select, Some, SpanMap, State, Step, Write, after, after_all, ap, ap₂, arith, cases_Bool, cases_lt, cell_at, cells_along, cond, corner_of, dup_writes, duplicate, fold, has_room, inl, inr, joined_tables, joined_text, le-ltb, lt-ltb, map, map_grid, merge, named_by, nat_lt, on_each, place, put_panel, rearrange, refl, reversed, rounds, selected, source_texts, state_of, unwrap_or, with_line_at, with_writes, ℕ}
 use Rattle.tabled_grid.proofs.Mapped.{map_grid-with_column, map_grid-with_row}
 use Rattle.tabled_grid.specs.declared.config.entity.Entity.TheVariants.{Global}
 use Rattle.tabled_steps.proofs.MergedRuns.{is_merged}

@@ -1,5 +1,5 @@
 -- Steps leave as many texts in each row as there are columns.
-use Rattle.tabled_steps.proofs.Common.{[], ◌&&◌, ◌++◌, ◌+◌, ◌-◌, ◌<◌, ◌∙◌, ◌∷◌, ◌≡◌, ◌⊎◌, Axis, Columns, Entity, Grid, IsEven, IsEven-with_cell, IsUndoneMidway, List, Places, Position, Rows, Select, State, Step, Write, after, after_all, and_parts, ap, arith, cases_Bool, cell_at, charset_writes, wrap_writes, columns_with, cond, corner_of, cut_rows, dup_writes, extracted, false, flattened, fold, half_open, has_pieces, has_room, indexes, inl, inr, joined_tables, joined_text, leb-true, length, length-replicate, ltb-true, max, named_by, nat_lt, on_each, option_and_then, oriented, parts, put_panel, read, rearrange, refl, removed, replicate, reversed, rotated, selected, span_writes, split, string_bytes, text_at, text_writes, true, unwrap_or, with_cell, with_writes, ℕ}
+use Rattle.tabled_steps.proofs.Common.{[], ◌&&◌, ◌++◌, ◌+◌, ◌-◌, ◌<◌, ◌∙◌, ◌∷◌, ◌≡◌, ◌⊎◌, Axis, Columns, Entity, Grid, IsEven, IsEven-with_cell, IsUndoneMidway, List, Places, Position, Rows, Select, State, Step, Write, after, after_all, and_parts, ap, arith, cases_Bool, cell_at, cond, corner_of, cut_rows, dup_writes, false, flattened, fold, has_pieces, has_room, inl, inr, joined_tables, joined_text, leb-true, length, length-replicate, ltb-true, max, named_by, nat_lt, on_each, option_and_then, oriented, parts, put_panel, read, refl, replicate, reversed, selected, span_writes, split, text_at, true, unwrap_or, with_cell, with_writes, ℕ}
 use Rattle.tabled_grid.proofs.Resized.{IsEven-with_column, IsEven-with_row}
 use Rattle.tabled_settings.specs.declared.split.Split.{Split}
 use Rattle.tabled_settings.proofs.Glued.{split_glued}

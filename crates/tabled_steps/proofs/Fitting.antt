@@ -1,5 +1,5 @@
 -- Steps that keep merged cells inside the table and apart.
-use Rattle.tabled_steps.proofs.Common.{[], ◌∷◌, AllByRecursion, Axis, Change, Columns, Does, Each, EachListed, EachUntil, Entity, Fits, Grid, Leaves, LeavesFirst, List, Merges, Names, OptionKeeps, Panels, Refused, Rows, Same, Select, SpanMap, Step, charset_writes, wrap_writes, columns_with, extracted, half_open, indexes, map_grid, removed, rotated, string_bytes, text_writes, writes_keep, ℕ}
+use Rattle.tabled_steps.proofs.Common.{[], ◌∷◌, AllByRecursion, Axis, Change, Does, Each, EachListed, EachUntil, Entity, Fits, Grid, Leaves, LeavesFirst, List, Merges, Names, OptionKeeps, Refused, Same, Select, SpanMap, Step, map_grid, writes_keep, ℕ}
 use Rattle.tabled_grid.specs.declared.config.entity.Entity.TheVariants.{Global}
 use Rattle.tabled_options.proofs.Keeps.{keeps_all, keeps_copied, keeps_in_order, keeps_listed}
 use Rattle.tabled_settings.proofs.RearrangedFits.{join_keeps, rearranged_keeps, reversal_keeps, split_keeps}

@@ -1,5 +1,5 @@
 -- What options do and leave on an entity depends on the places that it names.
-use Rattle.tabled_steps.proofs.Common.{[], ◌∙◌, ◌≡◌, ◌⊎◌, Axis, Bool, DoesFirstWrites, DoesWrites, Entity, FirstWrites, Grid, IsLocal, List, None, Option, Position, SpanMap, Spans, SpansFirst, Write, ap, at_each, back_of, cases_Bool, charset_writes, cond, count_of, drop_hidden, false, get, grown_each, hidden-from, hidden_by, inl, inr, inside, is_hidden, is_set, is_visible, map_grid, mapped_writes, pos, pull_writes, pulled_each, recoded, refl, same_map, shape_texts, span_writes, spanned, subst, suc, sym, text_writes, true, with_writes, wrap_writes, wrapped, ℕ, ℤ}
+use Rattle.tabled_steps.proofs.Common.{[], ◌∙◌, ◌≡◌, ◌⊎◌, Axis, Bool, DoesFirstWrites, DoesWrites, Entity, FirstWrites, Grid, IsLocal, List, None, Position, SpanMap, Spans, SpansFirst, Write, ap, back_of, cases_Bool, cond, count_of, drop_hidden, false, get, grown_each, hidden-from, hidden_by, inl, inr, inside, is_hidden, is_visible, map_grid, mapped_writes, pos, pull_writes, pulled_each, refl, same_map, shape_texts, span_writes, spanned, subst, suc, sym, true, with_writes, ℕ, ℤ}
 use Rattle.tabled_grid.proofs.SpanMaps.{get-drop_hidden, kept}
 use Rattle.tabled_steps.proofs.LocalMerges.{local_merges}
 use Rattle.tabled_steps.specs.Kinds.{EntityChange, Merge, Rewrite, RewriteIf, Span, rewritten, rewritten_if}
