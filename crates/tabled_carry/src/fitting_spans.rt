@@ -11,7 +11,7 @@ use crate::sort::sort;
 use std::alloc::{AllocError, Global};
 use std::marker::Model;
 use std::mem;
-use tabled_grid::config::{Rectangle, SpannedConfig};
+use tabled_grid::config::{Rectangle, Size, SpannedConfig};
 
 /// The merged cells of a table (`rows x columns`) that fit it, found before its cells move. A contract sees it
 /// as what was found: that shape, and those that fit, or none where all do.
@@ -19,8 +19,7 @@ use tabled_grid::config::{Rectangle, SpannedConfig};
 /// Of this project.
 #[derive(Drop)]
 pub struct FittingSpans {
-    rows: usize,
-    columns: usize,
+    table: Size,
     /// None where all fit.
     fitting: Option<SpannedConfig>,
 }
@@ -32,38 +31,28 @@ impl Model for FittingSpans {
 
     ghost coded = { found_code };
 
-    ghost view = { λ a. record { rows = a.rows; columns = a.columns; fitting = a.fitting } };
+    ghost view = { λ a. record { table = a.table; fitting = a.fitting } };
 }
 
 impl FittingSpans {
-    /// Those of a table's merged cells. It takes memory only where one doesn't fit.
-    pub fn of(
-        alloc: Global,
-        cfg: &SpannedConfig,
-        rows: usize,
-        columns: usize,
-    ) -> Result<Self, AllocError>
+    /// Those of the merged cells of a table, of which the shape is given. It takes memory only where one doesn't fit.
+    pub fn of(alloc: Global, cfg: &SpannedConfig, table: Size) -> Result<Self, AllocError>
         ensures found { IfOk result (IsFoundOf cfg.now) }
-        ensures rows { IfOk result (λ found. found.rows ≡ rows) }
-        ensures columns { IfOk result (λ found. found.columns ≡ columns) }
-        ensures promised { Fits cfg.now rows columns → IsOk result }
+        ensures table { IfOk result (λ found. found.table ≡ table) }
+        ensures promised { Fits cfg.now table.height table.width → IsOk result }
     {
-        let fitting = if cfg.fits(rows, columns) {
+        let fitting = if cfg.fits(table.height, table.width) {
             None
         } else {
-            Some(cfg.fitting(alloc, rows, columns)?)
+            Some(cfg.fitting(alloc, table.height, table.width)?)
         };
-        Ok(FittingSpans {
-            rows,
-            columns,
-            fitting,
-        })
+        Ok(FittingSpans { table, fitting })
     }
 
     /// Takes the others away from the merged cells that these were found of, where cells kept their places.
     pub fn stay(self, cfg: &mut SpannedConfig)
         requires { IsFoundOf cfg.old self }
-        ensures { cfg.new ≡ keep_fitting self.rows self.columns cfg.old }
+        ensures { cfg.new ≡ keep_fitting self.table.height self.table.width cfg.old }
     {
         if let Some(fitting) = self.fitting {
             *cfg = fitting;
@@ -75,34 +64,25 @@ impl FittingSpans {
     /// comes apart. It takes no memory.
     pub fn carry_along<M: MovesRectangles>(self, alloc: Global, moves: &M, cfg: &mut SpannedConfig)
         requires { IsFoundOf cfg.old self }
-        ensures carried { cfg.new ≡ carried (M.places moves.now) self.rows self.columns cfg.old }
+        ensures carried { cfg.new ≡ carried (M.places moves.now) self.table.height self.table.width cfg.old }
     {
-        let FittingSpans {
-            rows,
-            columns,
-            fitting,
-        } = self;
+        let FittingSpans { table, fitting } = self;
         let fitting = match fitting {
             Some(fitting) => fitting,
             // No merged cells stand in meanwhile, which takes no memory.
             None => mem::replace(cfg, SpannedConfig::new(alloc)),
         };
-        *cfg = carried_fitting(moves, fitting, rows, columns);
+        *cfg = carried_fitting(moves, fitting, table);
     }
 }
 
 /// What becomes of merged cells that fit a table.
-fn carried_fitting<M: MovesRectangles>(
-    moves: &M,
-    cfg: SpannedConfig,
-    rows: usize,
-    columns: usize,
-) -> SpannedConfig
-    requires { Fits cfg rows columns }
+fn carried_fitting<M: MovesRectangles>(moves: &M, cfg: SpannedConfig, table: Size) -> SpannedConfig
+    requires { Fits cfg table.height table.width }
     ensures image { result ≡ image (M.places moves.now) cfg }
 {
     let mut anchors = cfg.into_rectangles();
-    carry(moves, &mut anchors, rows, columns);
+    carry(moves, &mut anchors, table.height, table.width);
     SpannedConfig::from_rectangles(anchors)
 }
 

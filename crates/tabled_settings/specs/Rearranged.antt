@@ -7,6 +7,7 @@ use Rattle.tabled_grid.specs.Entity.{place}
 use Rattle.tabled_grid.specs.declared.config.offset.Offset.{Offset}
 use Rattle.tabled_grid.specs.declared.config.offset.Offset.TheVariants.{Start, End}
 use Rattle.tabled_grid.specs.declared.config.position.Position.{Position}
+use Rattle.tabled_grid.specs.declared.config.rectangle.Rectangle.{Rectangle}
 use Rattle.tabled_grid.specs.declared.records.axis.Axis.{Axis}
 use Rattle.tabled_grid.specs.declared.records.axis.Axis.TheVariants.{Rows, Columns}
 use Rattle.tabled_settings.specs.declared.rotate.Rotate.{Rotate}
@@ -15,7 +16,7 @@ use Rattle.tabled_settings.specs.declared.reverse.Reverse.{Reverse}
 use Rattle.tabled_grid.specs.Axis.{count_of, in_line, line_of}
 use Rattle.tabled_grid.specs.Grid.{Grid}
 use Rattle.tabled_grid.specs.Places.{Places, ReadsThrough}
-use Rattle.tabled_grid.specs.Spans.{SpanMap}
+use Rattle.tabled_grid.specs.Spans.{SpanMap, rectangle, sized}
 use Rattle.tabled_carry.specs.Images.{carried}
 use Rattle.tabled_options.specs.Does.{Change}
 use Rattle.tabled_select.specs.Located.{is_located}
@@ -73,17 +74,17 @@ reversed axis start limit rows columns = lines_from axis (reversed_index start (
 abbrev pub count_in : (Bound ℕ × Bound ℕ) → ℕ → ℕ
 count_in range n = min (end_index range.1 n) n - first_index range.0
 
--- r rows and c columns from a place on
-abbrev pub window : Position → ℕ → ℕ → Places
-window first rows columns = record { rows = rows; columns = columns; old_place = λ (p : Position). Some (place (first.row + p.row) (first.col + p.col)) }
+-- the cells of a rectangle
+abbrev pub window : Rectangle → Places
+window cells = record { rows = cells.size.height; columns = cells.size.width; old_place = λ (p : Position). Some (place (cells.first.row + p.row) (cells.first.col + p.col)) }
 
 -- the rows from one index up to another, and of these the columns from one up to another, of r rows and c columns
 abbrev pub part : ℕ → ℕ → ℕ → ℕ → ℕ → ℕ → Places
-part first_row end_row first_column end_column rows columns = window (place first_row first_column) (min end_row rows - first_row) (columns_if (min end_row rows - first_row) (min end_column columns - first_column))
+part first_row end_row first_column end_column rows columns = window (rectangle (place first_row first_column) (sized (min end_row rows - first_row) (columns_if (min end_row rows - first_row) (min end_column columns - first_column))))
 
 -- the rows of a range, and of these the columns of another one
 abbrev pub extracted : (Bound ℕ × Bound ℕ) → (Bound ℕ × Bound ℕ) → ℕ → ℕ → Places
-extracted in_rows in_columns rows columns = window (place (first_index in_rows.0) (first_index in_columns.0)) (count_in in_rows rows) (columns_if (count_in in_rows rows) (count_in in_columns columns))
+extracted in_rows in_columns rows columns = window (rectangle (place (first_index in_rows.0) (first_index in_columns.0)) (sized (count_in in_rows rows) (columns_if (count_in in_rows rows) (count_in in_columns columns))))
 
 -- the indexes below n for which a test fails, in order
 abbrev pub left_over : (ℕ → Bool) → ℕ → List ℕ

@@ -10,9 +10,10 @@ ghost use Rattle.std.proofs.Common.{rules};
 use std::alloc::{AllocError, Global};
 use std::marker::Model;
 use tabled_carry::FittingSpans;
-use tabled_grid::config::{Entity, Position, SpannedConfig};
+use tabled_grid::config::{Entity, Position, Size, SpannedConfig};
 use tabled_grid::records::{
-    Axis, CellText, ExactRecords, PeekableRecords, Records, RecordsMut, Resizable, Text, VecRecords,
+    Axis, CellText, ExactRecords, PeekableRecords, Records, RecordsMut, Resizable, Text,
+    VecRecords, shape_of,
 };
 use tabled_table::{Table, TableOption};
 
@@ -108,11 +109,11 @@ where
         cfg: &mut SpannedConfig,
         _dimension: &mut D,
     ) -> Result<(), AllocError> {
-        let rows = records.count_rows();
-        let columns = records.count_columns();
+        let table = shape_of(records);
         let second = self.second.get_records();
-        let joint = Joint::of(self.axis, rows, columns, second, self.default.as_str())?;
-        let fitting = FittingSpans::of(alloc, cfg, rows, columns)?;
+        let Size { height, width } = table;
+        let joint = Joint::of(self.axis, height, width, second, self.default.as_str())?;
+        let fitting = FittingSpans::of(alloc, cfg, table)?;
         joint.join(alloc, records)?;
         fitting.stay(cfg);
         Ok(())

@@ -12,7 +12,7 @@ use std::alloc::{AllocError, Global};
 use std::marker::{Model, PhantomData};
 use tabled_carry::FittingSpans;
 use tabled_grid::config::{Entity, SpannedConfig};
-use tabled_grid::records::{Axis, Blank, ExactRecords, Records, Resizable};
+use tabled_grid::records::{Axis, Blank, ExactRecords, Records, Resizable, shape_of};
 pub use tabled_grid::records::{Target, TargetColumn, TargetRow};
 use tabled_options::TableOption;
 use tabled_select::location::{Location, marks};
@@ -126,15 +126,14 @@ where
     ensures same { OnErr result (cfg.new ≡ cfg.old) }
 {
     let gone = marks(alloc, locator, records, axis.count(records))?;
-    let rows = records.count_rows();
-    let columns = records.count_columns();
+    let table = shape_of(records);
     // Without merged cells no list of the lines that are left is made.
     if cfg.rectangles().is_empty() {
         lines::remove(axis, records, &gone);
         return Ok(());
     }
-    let left = KeptLines::unmarked(alloc, axis, &gone, rows, columns)?;
-    let fitting = FittingSpans::of(alloc, cfg, rows, columns)?;
+    let left = KeptLines::unmarked(alloc, axis, &gone, table)?;
+    let fitting = FittingSpans::of(alloc, cfg, table)?;
     lines::remove(axis, records, &gone);
     fitting.carry_along(alloc, &left, cfg);
     Ok(())

@@ -11,8 +11,8 @@ use std::alloc::{AllocError, Global};
 use std::marker::Model;
 use std::ops::{Range, RangeFull};
 use tabled_carry::{FittingSpans, Moves, MovesCells, MovesRectangles, image_of};
-use tabled_grid::config::{Entity, Position, Rectangle, SpannedConfig, ToBounds};
-use tabled_grid::records::{Axis, Blank, ExactRecords, Records, Resizable};
+use tabled_grid::config::{Entity, Position, Rectangle, Size, SpannedConfig, ToBounds};
+use tabled_grid::records::{Axis, Blank, ExactRecords, Records, Resizable, shape_of};
 use tabled_options::TableOption;
 
 /// Keeps the rows of a range, and the columns of another. Only merged cells that don't fit the table take
@@ -97,12 +97,11 @@ where
         cfg: &mut SpannedConfig,
         _dimension: &mut D,
     ) -> Result<(), AllocError> {
-        let rows = records.count_rows();
-        let columns = records.count_columns();
-        let in_rows = self.rows.to_range(rows);
-        let in_columns = self.columns.to_range(columns);
-        let part = Window::of(&in_rows, &in_columns, rows, columns);
-        let fitting = FittingSpans::of(alloc, cfg, rows, columns)?;
+        let table = shape_of(records);
+        let in_rows = self.rows.to_range(table.height);
+        let in_columns = self.columns.to_range(table.width);
+        let part = Window::of(&in_rows, &in_columns, table);
+        let fitting = FittingSpans::of(alloc, cfg, table)?;
         lines::keep(Axis::Rows, records, in_rows);
         lines::keep(Axis::Columns, records, in_columns);
         fitting.carry_along(alloc, &part, cfg);
@@ -116,40 +115,40 @@ where
     ghost acts_like = { Prim.search rules };
 }
 
-/// r rows and c columns of a table, from a place on.
+/// The cells of a part of a table.
 #[derive(Drop)]
 struct Window {
-    first: Position,
-    rows: usize,
-    columns: usize,
-    ghost bottom: { first.row + rows < 2 ^ 64 },
-    ghost right: { first.col + columns < 2 ^ 64 },
+    cells: Rectangle,
+    ghost bottom: { cells.first.row + cells.size.height < 2 ^ 64 },
+    ghost right: { cells.first.col + cells.size.width < 2 ^ 64 },
 }
 
 impl Window {
-    /// Those of two ranges, of a table of r rows and c columns.
-    fn of(in_rows: &Range<usize>, in_columns: &Range<usize>, rows: usize, columns: usize) -> Self
-        ensures { window result.first result.rows result.columns ≡ part in_rows.now.start in_rows.now.end in_columns.now.start in_columns.now.end rows columns }
+    /// Those of two ranges, of a table of a shape.
+    fn of(in_rows: &Range<usize>, in_columns: &Range<usize>, table: Size) -> Self
+        ensures { window result.cells ≡ part in_rows.now.start in_rows.now.end in_columns.now.start in_columns.now.end table.height table.width }
     {
-        let height = lines::count_in(in_rows, rows);
-        let width = lines::count_in(in_columns, columns);
-        Window {
+        let height = lines::count_in(in_rows, table.height);
+        let columns = lines::count_in(in_columns, table.width);
+        let width = if height == 0 { 0 } else { columns };
+        let cells = Rectangle {
             first: Position::new(in_rows.start, in_columns.start),
-            rows: height,
-            columns: if height == 0 { 0 } else { width },
-        }
+            size: Size { height, width },
+        };
+        Window { cells }
     }
 }
 
 impl Moves for Window {
-    ghost places = { λ w. window w.first w.rows w.columns };
+    ghost places = { λ w. window w.cells };
 }
 
 impl MovesCells for Window {
     fn new_place(&self, pos: Position) -> Option<Position> {
-        let row = pos.row.checked_sub(self.first.row)?;
-        let col = pos.col.checked_sub(self.first.col)?;
-        (row < self.rows && col < self.columns).then_some(Position::new(row, col))
+        let Rectangle { first, size } = self.cells;
+        let row = pos.row.checked_sub(first.row)?;
+        let col = pos.col.checked_sub(first.col)?;
+        (row < size.height && col < size.width).then_some(Position::new(row, col))
     }
 }
 

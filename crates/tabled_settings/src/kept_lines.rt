@@ -7,17 +7,16 @@ ghost use Rattle.tabled_settings.specs.Rearranged.{kept_lines};
 
 use std::alloc::{AllocError, Global};
 use tabled_carry::{Moves, MovesCells, MovesRectangles, image_of};
-use tabled_grid::config::{Position, Rectangle};
+use tabled_grid::config::{Position, Rectangle, Size};
 use tabled_grid::records::Axis;
 
-/// Some of the rows, or of the columns, of a table of r rows and c columns.
+/// Some of the rows, or of the columns, of a table of a shape.
 #[derive(Drop)]
 pub(crate) struct KeptLines {
     axis: Axis,
     /// In order.
     indexes: Vec<usize>,
-    rows: usize,
-    columns: usize,
+    table: Size,
     ghost rising: { IsStrictlyIncreasing indexes.items },
 }
 
@@ -27,17 +26,15 @@ impl KeptLines {
         alloc: Global,
         axis: Axis,
         gone: &[bool],
-        rows: usize,
-        columns: usize,
+        table: Size,
     ) -> Result<Self, AllocError>
-        ensures { IfOk result (λ k. kept_lines k.axis k.indexes.items k.rows k.columns ≡ kept_lines axis (unmarked gone.now) rows columns) }
+        ensures { IfOk result (λ k. kept_lines k.axis k.indexes.items k.table.height k.table.width ≡ kept_lines axis (unmarked gone.now) table.height table.width) }
     {
         let indexes = unmarked(alloc, gone)?;
         Ok(KeptLines {
             axis,
             indexes,
-            rows,
-            columns,
+            table,
         })
     }
 }
@@ -82,13 +79,13 @@ fn holds_at(indexes: &[usize], place: usize, index: usize) -> bool
 }
 
 impl Moves for KeptLines {
-    ghost places = { λ k. kept_lines k.axis k.indexes.items k.rows k.columns };
+    ghost places = { λ k. kept_lines k.axis k.indexes.items k.table.height k.table.width };
 }
 
 impl MovesCells for KeptLines {
     fn new_place(&self, pos: Position) -> Option<Position> {
         let across = self.axis.across();
-        if across.line_of(pos) >= across.count_of(self.rows, self.columns) {
+        if across.line_of(pos) >= across.count_of(self.table.height, self.table.width) {
             return None;
         }
         let line = index_of(&self.indexes, self.axis.line_of(pos))?;

@@ -12,7 +12,7 @@ use crate::lines;
 use std::alloc::{AllocError, Global};
 use tabled_carry::{FittingSpans, Moves, MovesCells, MovesRectangles, image_of};
 use tabled_grid::config::{Entity, Offset, Position, Rectangle, Size, SpannedConfig};
-use tabled_grid::records::{Axis, Blank, ExactRecords, Records, Resizable};
+use tabled_grid::records::{Axis, Blank, ExactRecords, Records, Resizable, shape_of};
 use tabled_options::TableOption;
 
 /// Puts rows or columns, from a start up to a limit, into the opposite order, and merged cells with them. It
@@ -104,19 +104,18 @@ where
         cfg: &mut SpannedConfig,
         _dimension: &mut D,
     ) -> Result<(), AllocError> {
-        let rows = records.count_rows();
-        let columns = records.count_columns();
-        let Some(end) = self.end(self.axis.count_of(rows, columns)) else {
+        let table = shape_of(records);
+        let count = self.axis.count_of(table.height, table.width);
+        let Some(end) = self.end(count) else {
             return Ok(());
         };
         let mirror = Mirror {
             axis: self.axis,
             start: self.start,
             end,
-            rows,
-            columns,
+            table,
         };
-        let fitting = FittingSpans::of(alloc, cfg, rows, columns)?;
+        let fitting = FittingSpans::of(alloc, cfg, table)?;
         lines::reverse(self.axis, records, self.start, end);
         fitting.carry_along(alloc, &mirror, cfg);
         Ok(())
@@ -129,21 +128,20 @@ where
     ghost acts_like = { Prim.search rules };
 }
 
-/// Lines of a table of r rows and c columns in the opposite order, from a start up to an end.
+/// Lines of a table of a shape in the opposite order, from a start up to an end.
 #[derive(Drop)]
 struct Mirror {
     axis: Axis,
     start: usize,
     end: usize,
-    rows: usize,
-    columns: usize,
-    ghost within: { end ≤ count_of axis rows columns },
+    table: Size,
+    ghost within: { end ≤ count_of axis table.height table.width },
 }
 
 impl Mirror {
     /// The other index of a pair, or an index beside the lines that are reversed.
     fn index(&self, i: usize) -> usize
-        ensures { let m = self.now in result ≡ reversed_index m.start m.end (count_of m.axis m.rows m.columns) i }
+        ensures { let m = self.now in result ≡ reversed_index m.start m.end (count_of m.axis m.table.height m.table.width) i }
     {
         if self.start <= i && i < self.end {
             self.start + (self.end - 1 - i)
@@ -154,12 +152,12 @@ impl Mirror {
 }
 
 impl Moves for Mirror {
-    ghost places = { λ m. lines_from m.axis (reversed_index m.start m.end (count_of m.axis m.rows m.columns)) m.rows m.columns };
+    ghost places = { λ m. lines_from m.axis (reversed_index m.start m.end (count_of m.axis m.table.height m.table.width)) m.table.height m.table.width };
 }
 
 impl MovesCells for Mirror {
     fn new_place(&self, pos: Position) -> Option<Position> {
-        if pos.row < self.rows && pos.col < self.columns {
+        if pos.row < self.table.height && pos.col < self.table.width {
             let line = self.index(self.axis.line_of(pos));
             Some(self.axis.in_line(pos, line))
         } else {
@@ -174,7 +172,8 @@ impl MovesRectangles for Mirror {
             first,
             size: Size { height, width },
         } = of;
-        if first.row + height > self.rows || first.col + width > self.columns {
+        let table = self.table;
+        if first.row + height > table.height || first.col + width > table.width {
             return image_of(self, of);
         }
         let line = self.axis.line_of(first);

@@ -10,7 +10,7 @@ use crate::lines;
 use std::alloc::{AllocError, Global};
 use tabled_carry::{FittingSpans, Moves, MovesRectangles};
 use tabled_grid::config::{Entity, Position, Rectangle, Size, SpannedConfig};
-use tabled_grid::records::{Axis, Blank, ExactRecords, Records, Resizable};
+use tabled_grid::records::{Axis, Blank, ExactRecords, Records, Resizable, shape_of};
 use tabled_options::TableOption;
 
 /// Turns a table, and its merged cells with it. Refused for memory, it leaves the table as it was; `Top` and
@@ -53,14 +53,12 @@ where
         cfg: &mut SpannedConfig,
         _dimension: &mut D,
     ) -> Result<(), AllocError> {
-        let rows = records.count_rows();
-        let columns = records.count_columns();
+        let table = shape_of(records);
         let rotation = Rotation {
             rotate: self,
-            rows,
-            columns,
+            table,
         };
-        let fitting = FittingSpans::of(alloc, cfg, rows, columns)?;
+        let fitting = FittingSpans::of(alloc, cfg, table)?;
         rotate_cells(alloc, &rotation.rotate, records)?;
         fitting.carry_along(alloc, &rotation, cfg);
         Ok(())
@@ -73,16 +71,15 @@ where
     ghost acts_like = { Prim.search rules };
 }
 
-/// A turn of a table of r rows and c columns.
+/// A turn of a table of a shape.
 #[derive(Drop)]
 struct Rotation {
     rotate: Rotate,
-    rows: usize,
-    columns: usize,
+    table: Size,
 }
 
 impl Moves for Rotation {
-    ghost places = { λ t. rotated t.rotate t.rows t.columns };
+    ghost places = { λ t. rotated t.rotate t.table.height t.table.width };
 }
 
 impl MovesRectangles for Rotation {
@@ -93,7 +90,7 @@ impl MovesRectangles for Rotation {
         } = of;
         let bottom = first.row + height;
         let right = first.col + width;
-        if bottom > self.rows || right > self.columns {
+        if bottom > self.table.height || right > self.table.width {
             return None;
         }
         let turned = Size {
@@ -102,15 +99,15 @@ impl MovesRectangles for Rotation {
         };
         Some(match self.rotate {
             Rotate::Left => Rectangle {
-                first: Position::new(self.columns - right, first.row),
+                first: Position::new(self.table.width - right, first.row),
                 size: turned,
             },
             Rotate::Right => Rectangle {
-                first: Position::new(first.col, self.rows - bottom),
+                first: Position::new(first.col, self.table.height - bottom),
                 size: turned,
             },
             Rotate::Top | Rotate::Bottom => Rectangle {
-                first: Position::new(self.rows - bottom, first.col),
+                first: Position::new(self.table.height - bottom, first.col),
                 size: of.size,
             },
         })

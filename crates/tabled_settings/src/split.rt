@@ -16,7 +16,7 @@ use tabled_carry::FittingSpans;
 use tabled_grid::config::{Entity, SpannedConfig};
 pub use tabled_grid::records::PieceOrder as Behavior;
 use tabled_grid::records::{
-    Axis, CellText, ExactRecords, LinePieces, PeekableRecords, Records, Resizable,
+    Axis, CellText, ExactRecords, LinePieces, PeekableRecords, Records, Resizable, shape_of,
 };
 use tabled_options::TableOption;
 
@@ -152,10 +152,10 @@ where
         cfg: &mut SpannedConfig,
         _dimension: &mut D,
     ) -> Result<(), AllocError> {
-        let rows = records.count_rows();
-        let columns = records.count_columns();
-        let lines = self.lines.count_of(rows, columns);
-        let width = self.lines.across().count_of(rows, columns);
+        let table = shape_of(records);
+        let lines = self.lines.count_of(table.height, table.width);
+        let across = self.lines.across();
+        let width = across.count_of(table.height, table.width);
         if lines == 0 || self.index == 0 || self.index >= width {
             return Ok(());
         }
@@ -164,13 +164,13 @@ where
             Display::Clean => {
                 let staying = staying_pieces(alloc, records, &pieces)?;
                 let clean = CleanPieces { pieces, staying };
-                let fitting = FittingSpans::of(alloc, cfg, rows, columns)?;
+                let fitting = FittingSpans::of(alloc, cfg, table)?;
                 records.cut(alloc, self.lines, self.behavior, self.index)?;
                 lines::keep_some(self.lines, records, &clean.staying);
                 fitting.carry_along(alloc, &clean, cfg);
             }
             Display::Retain => {
-                let fitting = FittingSpans::of(alloc, cfg, rows, columns)?;
+                let fitting = FittingSpans::of(alloc, cfg, table)?;
                 records.cut(alloc, self.lines, self.behavior, self.index)?;
                 fitting.carry_along(alloc, &pieces, cfg);
             }

@@ -100,7 +100,11 @@ pub fn keeps_what_fits(
 ) -> Result<(), AllocError>
     ensures { OnOk result (cfg.new ≡ keep_fitting rows columns cfg.old) }
 {
-    FittingSpans::of(alloc, cfg, rows, columns)?.stay(cfg);
+    let table = Size {
+        height: rows,
+        width: columns,
+    };
+    FittingSpans::of(alloc, cfg, table)?.stay(cfg);
     Ok(())
 }
 
@@ -128,7 +132,11 @@ pub fn carries_along<M: MovesRectangles>(
     ensures err { OnErr result (cfg.new ≡ cfg.old) }
     ensures promised { Fits cfg.old rows columns → IsOk result }
 {
-    FittingSpans::of(alloc, cfg, rows, columns)?.carry_along(alloc, moves, cfg);
+    let table = Size {
+        height: rows,
+        width: columns,
+    };
+    FittingSpans::of(alloc, cfg, table)?.carry_along(alloc, moves, cfg);
     Ok(())
 }
 

@@ -7,7 +7,7 @@ carry-requires-clause-anchors g c = rw c.into_rectangles-anchors.ensures.rectang
 pub carry-requires-clause-fits : goal.carry-requires-clause-fits
 carry-requires-clause-fits g c =
     let is : map_of c.into_rectangles-anchors.result.items ≡ c.args.cfg = ap map_of c.into_rectangles-anchors.ensures.rectangles ∙ map_of-rectangles c.args.cfg in
-    subst (λ (m : SpanMap). Fits m c.args.rows c.args.columns) (sym is) c.requires
+    subst (λ (m : SpanMap). Fits m c.args.table.height c.args.table.width) (sym is) c.requires
 
 pub returns : goal.returns
 returns g c =

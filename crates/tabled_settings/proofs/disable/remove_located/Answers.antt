@@ -18,8 +18,8 @@ pub returns-clause-ok : goal.returns-clause-ok
 returns-clause-ok g c =
     let m = c.in_ok-gone.ensures.marks in
     let told = rw c.count.ensures.count at m.2 in
-    let moved = (rw (c.in_ok-fitting.ensures.rows, c.in_ok-fitting.ensures.columns) at c.carry_along.ensures.carried) ∙ ap (λ (places : Places). carried places c.count_rows-rows.result c.count_columns-columns.result c.args.cfg.now) c.in_ok-left.ensures in record {
+    let moved = (rw c.in_ok-fitting.ensures.table at c.carry_along.ensures.carried) ∙ ap (λ (places : Places). carried places c.shape_of-table.result.height c.shape_of-table.result.width c.args.cfg.now) c.in_ok-left.ensures in record {
       found = m.0;
       located = m.1;
-      rearranged = (removed_done _ _ _ _ told _ (rw c.deref-3.ensures.value at c.remove-2.ensures.kept), removed_carried _ _ _ _ told _ _ c.args.cfg.now _ c.count_rows-rows.ensures.rows c.count_columns-columns.ensures.columns (rw c.deref-2.ensures.value at moved));
+      rearranged = (removed_done _ _ _ _ told _ (rw c.deref-3.ensures.value at c.remove-2.ensures.kept), removed_carried _ _ _ _ told _ _ c.args.cfg.now _ c.shape_of-table.ensures.rows c.shape_of-table.ensures.columns (rw c.deref-2.ensures.value at moved));
     }

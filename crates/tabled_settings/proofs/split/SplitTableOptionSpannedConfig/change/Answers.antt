@@ -1,4 +1,4 @@
-use Rattle.tabled_settings.proofs.Common.{◌*◌, ◌<◌, ◌∙◌, ◌≡◌, Clean, Grid, IsStrictlyIncreasing, List, Split, across, arith, clean_split, div_ceil, get_or, length, map_grid, oriented, refl, staying_pieces, subst, sym, ℕ}
+use Rattle.tabled_settings.proofs.Common.{◌*◌, ◌<◌, ◌∙◌, ◌≡◌, Clean, Grid, IsStrictlyIncreasing, List, Size, Split, across, ap, arith, clean_split, div_ceil, get_or, length, map_grid, oriented, refl, staying_pieces, subst, sym, ℕ}
 use Rattle.tabled_grid.specs.declared.records.pieces.LinePieces.{LinePieces}
 use Rattle.tabled_settings.proofs.PiecePlaces.{clean_places, clean_splits, retained_places, retained_splits, spans_carried}
 use Rattle.tabled_settings.proofs.PiecesDone.{CanBeCut, lines_counted, staying_below, staying_rising}
@@ -10,12 +10,12 @@ can_be_cut : (g : _) (c : After-new g) → CanBeCut c.args.self c.count_of-lines
 can_be_cut g c =
     let s = c.args.self in
     let grid = g.R.GridStore.grid c.args.records.now in
-    let rows = c.count_rows-rows.ensures.rows in
-    let columns = c.count_columns-columns.ensures.columns in
+    let rows = c.shape_of-table.ensures.rows in
+    let columns = c.shape_of-table.ensures.columns in
     record {
       even = g.R.GridStore.even _ c.requires.well;
       count = lines_counted s.lines grid _ _ _ c.count_of-lines.ensures rows columns;
-      wide = lines_counted (across s.lines) grid _ _ _ (rw c.across.ensures at c.count_of-width.ensures) rows columns;
+      wide = lines_counted (across s.lines) grid _ _ _ (rw c.across-across.ensures at c.count_of-width.ensures) rows columns;
       some = omega (arith, c.if-lines-eq0.false);
       index = omega (arith, c.if-self-eq0.false);
       narrow = omega (arith, c.if-self-width.false);
@@ -62,7 +62,7 @@ returns-in_ok-cut-in-Clean-clause-ok g c =
     let can = can_be_cut g (goal.at.returns-in_ok-cut-in-Clean-clause-ok g c).After-new in
     let staying = staying_in (map_grid text_of (g.R.GridStore.grid c.args.records.now)) _ c.args.self c.in_ok-pieces.pieces (pieces_of c.args.self c.in_ok-pieces.pieces c.in-Clean.is is.axis is.order is.index) c.in_ok-staying-in-Clean.ensures in (
       clean_splits text_of _ _ _ _ can g.R.Cell.Blank.is_blank g.met.R.Cell.CellText.blank_is_empty _ (rw (← can.count, ← can.wide) at c.in_ok-cut-in-Clean.ensures.ok) _ _ c.in-Clean.is staying (rw c.deref.ensures.value at c.keep_some.ensures.kept),
-      spans_carried text_of _ _ _ _ can _ _ _ _ _ (clean_places text_of _ _ _ _ can _ c.in-Clean.is staying) (c.in_ok-fitting-in-Clean.ensures.rows ∙ c.count_rows-rows.ensures.rows) (c.in_ok-fitting-in-Clean.ensures.columns ∙ c.count_columns-columns.ensures.columns) (rw (is.axis, is.order, is.index, is.lines, is.width) at c.carry_along.ensures.carried),
+      spans_carried text_of _ _ _ _ can _ _ _ _ _ (clean_places text_of _ _ _ _ can _ c.in-Clean.is staying) (ap (λ (size : Size). size.height) c.in_ok-fitting-in-Clean.ensures.table ∙ c.shape_of-table.ensures.rows) (ap (λ (size : Size). size.width) c.in_ok-fitting-in-Clean.ensures.table ∙ c.shape_of-table.ensures.columns) (rw (is.axis, is.order, is.index, is.lines, is.width) at c.carry_along.ensures.carried),
     )
 
 pub returns-in_ok-cut-in-Retain-clause-ok : goal.returns-in_ok-cut-in-Retain-clause-ok
@@ -71,5 +71,5 @@ returns-in_ok-cut-in-Retain-clause-ok g c =
     let is = c.in_ok-pieces.ensures in
     let can = can_be_cut g (goal.at.returns-in_ok-cut-in-Retain-clause-ok g c).After-new in (
       retained_splits text_of _ _ _ _ can g.R.Cell.Blank.is_blank g.met.R.Cell.CellText.blank_is_empty _ (rw (← can.count, ← can.wide) at c.in_ok-cut-in-Retain.ensures.ok) c.in-Retain.is,
-      spans_carried text_of _ _ _ _ can _ _ _ _ _ (retained_places text_of _ _ _ _ can c.in-Retain.is) (c.in_ok-fitting-in-Retain.ensures.rows ∙ c.count_rows-rows.ensures.rows) (c.in_ok-fitting-in-Retain.ensures.columns ∙ c.count_columns-columns.ensures.columns) (rw (is.axis, is.order, is.index, is.lines, is.width) at c.carry_along-in-Retain.ensures.carried),
+      spans_carried text_of _ _ _ _ can _ _ _ _ _ (retained_places text_of _ _ _ _ can c.in-Retain.is) (ap (λ (size : Size). size.height) c.in_ok-fitting-in-Retain.ensures.table ∙ c.shape_of-table.ensures.rows) (ap (λ (size : Size). size.width) c.in_ok-fitting-in-Retain.ensures.table ∙ c.shape_of-table.ensures.columns) (rw (is.axis, is.order, is.index, is.lines, is.width) at c.carry_along-in-Retain.ensures.carried),
     )
