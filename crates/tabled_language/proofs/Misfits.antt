@@ -37,11 +37,11 @@ module _ (g : Grid (List ℕ)) where
   -- no span is faulty where all fit
   fine_behind : (earlier lines : List Line) → well (anchors (earlier ++ lines)) ≡ true → first_fault (span_fault g) earlier lines ≡ None
   fine_behind earlier [] h = refl
-  fine_behind earlier (line ∷ lines) h = by_anchor (anchor_in line) refl (fine_behind (earlier ++ line ∷ []) lines (ap (λ (all : List Line). well (anchors all)) (append_assoc earlier (line ∷ []) lines) ∙ h))
+  fine_behind earlier (line ∷ lines) h = fine_from_here (anchor_in line) refl (fine_behind (earlier ++ line ∷ []) lines (ap (λ (all : List Line). well (anchors all)) (append_assoc earlier (line ∷ []) lines) ∙ h))
     where
-      by_anchor : (o : Option Rectangle) → anchor_in line ≡ o → first_fault (span_fault g) (earlier ++ line ∷ []) lines ≡ None → first_fault (span_fault g) earlier (line ∷ lines) ≡ None
-      by_anchor None is later = passed earlier line lines is ∙ later
-      by_anchor (Some e) is later =
+      fine_from_here : (o : Option Rectangle) → anchor_in line ≡ o → first_fault (span_fault g) (earlier ++ line ∷ []) lines ≡ None → first_fault (span_fault g) earlier (line ∷ lines) ≡ None
+      fine_from_here None is later = passed earlier line lines is ∙ later
+      fine_from_here (Some e) is later =
           let here : anchors (line ∷ lines) ≡ e ∷ anchors lines = rw is refl in
           let all : well (anchors earlier ++ e ∷ anchors lines) ≡ true = ap well (ap (λ (es : List Rectangle). anchors earlier ++ es) (sym here) ∙ sym (filter_map-append anchor_in earlier (line ∷ lines))) ∙ h in
           fits earlier line lines e is (place_there (anchors earlier) (anchors lines) e all) ∙ later
@@ -57,21 +57,21 @@ module _ (g : Grid (List ℕ)) where
 
   misfit_behind : (earlier lines : List Line) (i : ℕ) → Misfit (anchors earlier) (anchors lines) i → first_fault (span_fault g) earlier lines ≡ Some (get_or (anchor_lines (length earlier) lines) i 0, SpanMisfits)
   misfit_behind earlier [] i m = absurd (omega (arith, m.within))
-  misfit_behind earlier (line ∷ lines) i m = by_anchor (anchor_in line) refl i m (misfit_behind (earlier ++ line ∷ []) lines)
+  misfit_behind earlier (line ∷ lines) i m = misfit_from_here (anchor_in line) refl i m (misfit_behind (earlier ++ line ∷ []) lines)
     where
       longer : length (earlier ++ line ∷ []) ≡ length earlier + 1
       longer = length-append earlier (line ∷ [])
 
-      by_anchor : (o : Option Rectangle) → anchor_in line ≡ o → (i : ℕ) → Misfit (anchors earlier) (anchors (line ∷ lines)) i
+      misfit_from_here : (o : Option Rectangle) → anchor_in line ≡ o → (i : ℕ) → Misfit (anchors earlier) (anchors (line ∷ lines)) i
           → ((j : ℕ) → Misfit (anchors (earlier ++ line ∷ [])) (anchors lines) j → first_fault (span_fault g) (earlier ++ line ∷ []) lines ≡ Some (get_or (anchor_lines (length (earlier ++ line ∷ [])) lines) j 0, SpanMisfits))
           → first_fault (span_fault g) earlier (line ∷ lines) ≡ Some (get_or (anchor_lines (length earlier) (line ∷ lines)) i 0, SpanMisfits)
-      by_anchor None is i m later =
+      misfit_from_here None is i m later =
           let here : anchors (line ∷ lines) ≡ anchors lines = rw is refl in
           let more : anchors (earlier ++ line ∷ []) ≡ anchors earlier = filter_map-append anchor_in earlier (line ∷ []) ∙ rw is (append-nil (anchors earlier)) in
           let numbers : anchor_lines (length earlier) (line ∷ lines) ≡ anchor_lines (length (earlier ++ line ∷ [])) lines = rw (is, longer) refl in
           passed earlier line lines is ∙ later i (subst (λ done. Misfit done (anchors lines) i) (sym more) (subst (λ es. Misfit (anchors earlier) es i) here m))
           ∙ ap (λ (ns : List ℕ). Some (get_or ns i 0, SpanMisfits)) (sym numbers)
-      by_anchor (Some e) is i m later =
+      misfit_from_here (Some e) is i m later =
           let here : anchors (line ∷ lines) ≡ e ∷ anchors lines = rw is refl in
           let more : anchors (earlier ++ line ∷ []) ≡ anchors earlier ++ e ∷ [] = filter_map-append anchor_in earlier (line ∷ []) ∙ rw is refl in
           let numbers : anchor_lines (length earlier) (line ∷ lines) ≡ (length earlier + 1) ∷ anchor_lines (length (earlier ++ line ∷ [])) lines = rw (is, longer) refl in

@@ -61,20 +61,20 @@ module _ {A : Type 0} (is_blank : A → Type 0) (text_of : A → List ℕ) where
   ActAs {X} step how = (x : X) → ActsAsOption (step x) how x
 
   -- a kind of step with a selector acts as a kind of option on each entity that the selector names
-  abbrev pub ActOnEach : {X R : Type 0} → (X → Select → Step) → CellOptionOf X R SpanMap A → Type 0
-  ActOnEach {X} step how = (x : X) (select : Select) → ActsAs (step x select) (EachListed (Names text_of select) (how.does x)) (LeavesFirst text_of select (how.does x) (how.leaves x))
+  abbrev pub OnEach : {X R : Type 0} → (X → Select → Step) → CellOptionOf X R SpanMap A → Type 0
+  OnEach {X} step how = (x : X) (select : Select) → ActsAs (step x select) (EachListed (Names text_of select) (how.does x)) (LeavesFirst text_of select (how.does x) (how.leaves x))
 
   -- two steps in one act as two options one after the other, where each of the steps acts as its option
   abbrev pub InTurn : {X Y R D : Type 0} → TableOptionOf X R SpanMap D A → TableOptionOf Y R SpanMap D A → TableOptionOf (X × Y) R SpanMap D A → X → Y → Type 0
   InTurn how next both x y = (p : _) (first : Step) (q : _) (second : Step) → ActsAsOption first how x → ActsAsOption second next y → ActsAsOption (step.Both' p first q second) both (x, y)
 
   -- a kind of step on what two selectors name acts as an option on two objects, where these list that
-  abbrev pub ActOnObjects : {X Y R I J D : Type 0} → (Select → Select → Step) → ObjectOf X R I A → ObjectOf Y R J A → TableOptionOf (X × Y) R SpanMap D A → X × Y → Type 0
-  ActOnObjects step to from how x = (destination source : Select) → ListTheSame (to.lists x.0) (Names text_of destination) → ListTheSame (from.lists x.1) (Names text_of source) → ActsAsOption (step destination source) how x
+  abbrev pub OnObjects : {X Y R I J D : Type 0} → (Select → Select → Step) → ObjectOf X R I A → ObjectOf Y R J A → TableOptionOf (X × Y) R SpanMap D A → X × Y → Type 0
+  OnObjects step to from how x = (destination source : Select) → ListTheSame (to.lists x.0) (Names text_of destination) → ListTheSame (from.lists x.1) (Names text_of source) → ActsAsOption (step destination source) how x
 
   -- a kind of step on a range of rows and one of columns acts as an option on two ranges, where these have the same bounds
-  abbrev pub ActWithin : {X Y R D : Type 0} → (ℕ → ℕ → ℕ → ℕ → Step) → BoundsOf X → BoundsOf Y → TableOptionOf (X × Y) R SpanMap D A → X × Y → Type 0
-  ActWithin step rows columns how x = (a b m n : ℕ) → rows.bounds_of x.0 ≡ half_open a b → columns.bounds_of x.1 ≡ half_open m n → ActsAsOption (step a b m n) how x
+  abbrev pub Within : {X Y R D : Type 0} → (ℕ → ℕ → ℕ → ℕ → Step) → BoundsOf X → BoundsOf Y → TableOptionOf (X × Y) R SpanMap D A → X × Y → Type 0
+  Within step rows columns how x = (a b m n : ℕ) → rows.bounds_of x.0 ≡ half_open a b → columns.bounds_of x.1 ≡ half_open m n → ActsAsOption (step a b m n) how x
 
   -- the step that takes away a range acts as an option that takes away lines, where it takes rows, or columns, and its location finds those of the range
   abbrev pub RemovesRange : {X R I J N : Type 0} → Axis → Axis → LocationOf X R ℕ I J A → TableOptionOf X R SpanMap N A → X → Type 0

@@ -8,7 +8,7 @@ ghost use Rattle.tabled_grid.specs.declared.records.axis.Axis.{Axis};
 ghost use Rattle.tabled_grid.specs.declared.records.axis.Axis.TheVariants.{Columns, Rows};
 ghost use Rattle.tabled_options.specs.Does.{Each};
 ghost use Rattle.tabled_spans.specs.Runs.{MergesRuns};
-ghost use Rattle.tabled_steps.specs.Acts.{ActAs, ActOnEach, ActOnObjects, ActWithin, FitsAfterOption, InTurn, ListTheSame, Makes, RemovesNamed, RemovesRange};
+ghost use Rattle.tabled_steps.specs.Acts.{ActAs, FitsAfterOption, InTurn, ListTheSame, Makes, OnEach, OnObjects, RemovesNamed, RemovesRange, Within};
 ghost use Rattle.tabled_steps.specs.Fitting.{KeepsCellsFitting};
 ghost use Rattle.tabled_steps.specs.MergedRuns.{runs};
 ghost use Rattle.tabled_steps.specs.States.{Becomes, EndAlike, State, after, after_all};
@@ -85,13 +85,13 @@ where
     R: Records + ExactRecords + PeekableRecords + RecordsMut<String> + Resizable,
     R::Cell: CellText,
     ensures lists { let object = ⟦<Select as Object<R>>⟧ in (select : Select) → ListTheSame (object.lists select) (Names R.Cell.text_of select) }
-    ensures set { ActOnEach R.Cell.is_blank R.Cell.text_of (λ text to. step.Set to text) ⟦<String as CellOption<R, SpannedConfig>>⟧ }
-    ensures charset { ActOnEach R.Cell.is_blank R.Cell.text_of step.Charset ⟦<Charset as CellOption<R, SpannedConfig>>⟧ }
-    ensures wrap { ActOnEach R.Cell.is_blank R.Cell.text_of step.Wrap ⟦<Wrap as CellOption<R, SpannedConfig>>⟧ }
-    ensures column_span { ActOnEach R.Cell.is_blank R.Cell.text_of step.ColumnSpan ⟦<ColumnSpan as CellOption<R, SpannedConfig>>⟧ }
-    ensures row_span { ActOnEach R.Cell.is_blank R.Cell.text_of step.RowSpan ⟦<RowSpan as CellOption<R, SpannedConfig>>⟧ }
-    ensures merge_vertical { ActOnEach R.Cell.is_blank R.Cell.text_of (λ _. step.Merge Rows) ⟦<MergeDuplicatesVertical as CellOption<R, SpannedConfig>>⟧ }
-    ensures merge_horizontal { ActOnEach R.Cell.is_blank R.Cell.text_of (λ _. step.Merge Columns) ⟦<MergeDuplicatesHorizontal as CellOption<R, SpannedConfig>>⟧ }
+    ensures set { OnEach R.Cell.is_blank R.Cell.text_of (λ text to. step.Set to text) ⟦<String as CellOption<R, SpannedConfig>>⟧ }
+    ensures charset { OnEach R.Cell.is_blank R.Cell.text_of step.Charset ⟦<Charset as CellOption<R, SpannedConfig>>⟧ }
+    ensures wrap { OnEach R.Cell.is_blank R.Cell.text_of step.Wrap ⟦<Wrap as CellOption<R, SpannedConfig>>⟧ }
+    ensures column_span { OnEach R.Cell.is_blank R.Cell.text_of step.ColumnSpan ⟦<ColumnSpan as CellOption<R, SpannedConfig>>⟧ }
+    ensures row_span { OnEach R.Cell.is_blank R.Cell.text_of step.RowSpan ⟦<RowSpan as CellOption<R, SpannedConfig>>⟧ }
+    ensures vertical { OnEach R.Cell.is_blank R.Cell.text_of (λ _. step.Merge Rows) ⟦<MergeDuplicatesVertical as CellOption<R, SpannedConfig>>⟧ }
+    ensures horizontal { OnEach R.Cell.is_blank R.Cell.text_of (λ _. step.Merge Columns) ⟦<MergeDuplicatesHorizontal as CellOption<R, SpannedConfig>>⟧ }
 {}
 
 /// A step around an option on tables does, and refused leaves, what the option does and leaves.
@@ -113,13 +113,13 @@ where
 
 /// Two steps in one do, and refused leave, what two options do and leave one after the other, where each of
 /// the steps does and leaves what its option does and leaves.
-pub fn both_steps_do_what_both_options_do<R, D, A, B>(_first: &A, _second: &B)
+pub fn both_steps_do_what_both_options_do<R, D, A, B>(_one: &A, _other: &B)
 where
     R: GridStore,
     R::Cell: CellText,
     A: TableOption<R, SpannedConfig, D>,
     B: TableOption<R, SpannedConfig, D> + Drop,
-    ensures acts { InTurn R.Cell.is_blank R.Cell.text_of A.TableOption B.TableOption ⟦<Settings<A, B> as TableOption<R, SpannedConfig, D>>⟧ _first.now _second.now }
+    ensures { InTurn R.Cell.is_blank R.Cell.text_of A.TableOption B.TableOption ⟦<Settings<A, B> as TableOption<R, SpannedConfig, D>>⟧ _one.now _other.now }
 {}
 
 /// A step that writes texts of cells to others does, and refused leaves, what `Dup` does and leaves with any
@@ -130,30 +130,30 @@ where
     R::Cell: CellText,
     Dst: Object<R> + Drop,
     Src: Object<R> + Drop,
-    ensures acts { ActOnObjects R.Cell.is_blank R.Cell.text_of step.Dup Dst.Object Src.Object ⟦<Dup<Dst, Src> as TableOption<R, SpannedConfig, D>>⟧ _dup.now }
+    ensures acts { OnObjects R.Cell.is_blank R.Cell.text_of step.Dup Dst.Object Src.Object ⟦<Dup<Dst, Src> as TableOption<R, SpannedConfig, D>>⟧ _dup.now }
 {}
 
 /// A step that keeps a range of rows and one of columns does, and refused leaves, what `Extract` does and
 /// leaves with any ranges of these bounds.
-pub fn extract_steps_do_what_extract_does<R, D, A, B>(_extract: &Extract<A, B>)
+pub fn extract_steps_do_what_extract_does<R, D, A, B>(_how: &Extract<A, B>)
 where
     A: ToBounds + Drop,
     B: ToBounds + Drop,
     R: Records + ExactRecords + Resizable,
     R::Cell: CellText,
-    ensures acts { ActWithin R.Cell.is_blank R.Cell.text_of step.Extract A.ToBounds B.ToBounds ⟦<Extract<A, B> as TableOption<R, SpannedConfig, D>>⟧ _extract.now }
+    ensures acts { Within R.Cell.is_blank R.Cell.text_of step.Extract A.ToBounds B.ToBounds ⟦<Extract<A, B> as TableOption<R, SpannedConfig, D>>⟧ _how.now }
 {}
 
 /// A step that takes away a range of rows or of columns, or the columns of a name, does, and refused leaves,
 /// what `Remove` does and leaves with any location that finds these.
-pub fn remove_steps_do_what_remove_does<R, D, L, T>(_remove: &Remove<L, T>)
+pub fn remove_steps_do_what_remove_does<R, D, L, T>(_how: &Remove<L, T>)
 where
     T: Target,
     L: Location<R, Coordinate = usize> + Drop,
     <L::IntoIter as IntoIterator>::IntoIter: Drop,
     R: Records + ExactRecords + Resizable,
     R::Cell: CellText,
-    ensures rows { RemovesRange R.Cell.is_blank R.Cell.text_of Rows T.lines L.Location ⟦<Remove<L, T> as TableOption<R, SpannedConfig, D>>⟧ _remove.now }
-    ensures columns { RemovesRange R.Cell.is_blank R.Cell.text_of Columns T.lines L.Location ⟦<Remove<L, T> as TableOption<R, SpannedConfig, D>>⟧ _remove.now }
-    ensures named { RemovesNamed R.Cell.is_blank R.Cell.text_of T.lines L.Location ⟦<Remove<L, T> as TableOption<R, SpannedConfig, D>>⟧ _remove.now }
+    ensures rows { RemovesRange R.Cell.is_blank R.Cell.text_of Rows T.lines L.Location ⟦<Remove<L, T> as TableOption<R, SpannedConfig, D>>⟧ _how.now }
+    ensures columns { RemovesRange R.Cell.is_blank R.Cell.text_of Columns T.lines L.Location ⟦<Remove<L, T> as TableOption<R, SpannedConfig, D>>⟧ _how.now }
+    ensures named { RemovesNamed R.Cell.is_blank R.Cell.text_of T.lines L.Location ⟦<Remove<L, T> as TableOption<R, SpannedConfig, D>>⟧ _how.now }
 {}

@@ -4,7 +4,7 @@ use Rattle.tabled_steps.proofs.laws.remove_steps_do_what_remove_does.Goals as go
 
 pub returns : goal.returns
 returns g c =
-    let locates = g.L.Location.locates c.args._remove.now in
+    let locates = g.L.Location.locates c.args._how.now in
     let text_of = g.R.Cell.CellText.text_of in
     record {
       rows = λ a b lines alike. rw lines (record {

@@ -13,6 +13,6 @@ returns g c =
       wrap = λ how select. acts g.R.Cell.Blank.is_blank text_of (step.Wrap how select);
       column_span = λ size select. acts g.R.Cell.Blank.is_blank text_of (step.ColumnSpan size select);
       row_span = λ size select. acts g.R.Cell.Blank.is_blank text_of (step.RowSpan size select);
-      merge_vertical = λ _ select. acts g.R.Cell.Blank.is_blank text_of (step.Merge Rows select);
-      merge_horizontal = λ _ select. acts g.R.Cell.Blank.is_blank text_of (step.Merge Columns select);
+      vertical = λ _ select. acts g.R.Cell.Blank.is_blank text_of (step.Merge Rows select);
+      horizontal = λ _ select. acts g.R.Cell.Blank.is_blank text_of (step.Merge Columns select);
     }
