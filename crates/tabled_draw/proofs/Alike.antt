@@ -3,7 +3,7 @@ use Rattle.tabled_draw.proofs.Common.{Alignment, Columns, Grid, In, List, Member
 use Rattle.std.proofs.lemmas.Bool.{and_parts}
 use Rattle.tabled_draw.proofs.Each.{each-same}
 use Rattle.tabled_draw.proofs.Fitting.{kept-well}
-use Rattle.tabled_draw.proofs.Owned.{LieWell, LiesIn, Owned, member-owner, owned, owner-lies, owner-some}
+use Rattle.tabled_draw.proofs.Owned.{LieWell, Owned, member-owner, owned, owner-lies, owner-some}
 use Rattle.tabled_draw.proofs.Owned.Owned.{alone, held}
 use Rattle.tabled_draw.proofs.Sizes.{from-order, largest-same, place-within}
 use Rattle.tabled_draw.specs.Owners.{owner}
@@ -12,6 +12,7 @@ use Rattle.tabled_draw.specs.Sizes.{sizes}
 use Rattle.tabled_draw.specs.Standing.{AreSeenAlike}
 use Rattle.tabled_grid.proofs.Members.{any-member}
 use Rattle.tabled_grid.specs.declared.records.axis.Axis.{Axis}
+use Rattle.tabled_grid.specs.Rectangles.{HasArea, LiesInside}
 
 module _ (style : Style) (aligns : List Alignment) (g h : Grid (List ℕ)) (es : List Rectangle) (well : LieWell g.rows g.columns es) (alike : AreSeenAlike g h es) where
   abbrev one : Plan
@@ -26,11 +27,11 @@ module _ (style : Style) (aligns : List Alignment) (g h : Grid (List ℕ)) (es :
   owner-seen : (p : Position) → p.row < g.rows → p.col < g.columns → is_hidden_in es (owner_in es p).first ≡ false
   owner-seen p low far = false_from_ne_true _ (λ t. none-hides (any-member (λ (e : Rectangle). holds e (owner_in es p).first && not (same_place e.first (owner_in es p).first)) es t))
     where
-      lies : LiesIn g.rows g.columns (owner_in es p)
+      lies : HasArea (owner_in es p) × LiesInside g.rows g.columns (owner_in es p)
       lies = owner-lies well p low far
 
       here : In (owner_in es p) (owner_in es p).first
-      here = record { top = omega arith; bottom = omega (arith, lies.high); left = omega arith; right = omega (arith, lies.wide) }
+      here = record { top = omega arith; bottom = omega (arith, lies.0.height); left = omega arith; right = omega (arith, lies.0.width) }
 
       begins : (e : Rectangle) → Member e es → In e (owner_in es p).first → Owned es p (owner_in es p) → e.first ≡ (owner_in es p).first
       begins e m inside (held n k) = ap (λ (x : Rectangle). x.first) (well.apart e (owner_in es p) (owner_in es p).first m n inside here)
@@ -45,14 +46,14 @@ module _ (style : Style) (aligns : List Alignment) (g h : Grid (List ℕ)) (es :
 
   owner-text : (p : Position) → p.row < g.rows → p.col < g.columns → text_of_cell g (owner_in es p).first ≡ text_of_cell h (owner_in es p).first
   owner-text p low far =
-      let lies : LiesIn g.rows g.columns (owner_in es p) = owner-lies well p low far in
-      alike.texts (owner_in es p).first (record { inside = record { row = omega (arith, lies.bottom, lies.high); col = omega (arith, lies.right, lies.wide) }; seen = owner-seen p low far })
+      let lies : HasArea (owner_in es p) × LiesInside g.rows g.columns (owner_in es p) = owner-lies well p low far in
+      alike.texts (owner_in es p).first (record { inside = record { row = omega (arith, lies.1.bottom, lies.0.height); col = omega (arith, lies.1.right, lies.0.width) }; seen = owner-seen p low far })
 
   member-text : (e : Rectangle) → Member e es → text_of_cell g e.first ≡ text_of_cell h e.first
   member-text e m =
-      let lies : LiesIn g.rows g.columns e = well.lies e m in
-      subst (λ (x : Rectangle). text_of_cell g x.first ≡ text_of_cell h x.first) (member-owner well e e.first m (record { top = omega arith; bottom = omega (arith, lies.high); left = omega arith; right = omega (arith, lies.wide) }))
-      (owner-text e.first (omega (arith, lies.bottom, lies.high)) (omega (arith, lies.right, lies.wide)))
+      let lies : HasArea e × LiesInside g.rows g.columns e = well.lies e m in
+      subst (λ (x : Rectangle). text_of_cell g x.first ≡ text_of_cell h x.first) (member-owner well e e.first m (record { top = omega arith; bottom = omega (arith, lies.0.height); left = omega arith; right = omega (arith, lies.0.width) }))
+      (owner-text e.first (omega (arith, lies.1.bottom, lies.0.height)) (omega (arith, lies.1.right, lies.0.width)))
 
   -- ---- sizes
 

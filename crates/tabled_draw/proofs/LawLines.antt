@@ -216,7 +216,7 @@ module _ (plan : Plan) (aligns : List Alignment) (fine : IsFine plan.style) (wel
           | inl more ↦ inside o e f (a.all u (j + 1 + 1) a.top a.bottom (omega (arith, a.left)) (omega arith)) (b.all d (j + 1 + 1) b.top b.bottom (omega (arith, b.left)) (omega arith)) is
           | inr last ↦
               let same : o.first.col + o.size.width ≡ j + 1 = omega (arith, a.right) in
-              edge (ends same (omega (arith, a.lies.right, same))) (is ∙ ap (left plan) same)
+              edge (ends same (omega (arith, a.lies.1.right, same))) (is ∙ ap (left plan) same)
         ]
       where
         ends : o.first.col + o.size.width ≡ j + 1 → j + 1 ≤ plan.grid.columns → joint (j + 1) ≡ false
@@ -254,7 +254,7 @@ module _ (plan : Plan) (aligns : List Alignment) (fine : IsFine plan.style) (wel
             at o e f a b (inr here) =
                 let col : o.first.col ≡ j = omega (arith, a.left) in
                 let wide : text_width (part j) ≡ line_width plan j + (room Columns (line_width plan) (widths plan) o.first.col o.size.width + 2) = columns-part j (line_width plan j) _ first (ap text_width (column-shows j o e f col) ∙ shows-wide n u (j + 1) o e) in
-                let to : left plan (o.first.col + o.size.width) ≡ left plan o.first.col + (line_width plan o.first.col + room Columns (line_width plan) (widths plan) o.first.col o.size.width + 2) = room-end Columns (line_width plan) (widths plan) o.first.col o.size.width a.lies.wide in
+                let to : left plan (o.first.col + o.size.width) ≡ left plan o.first.col + (line_width plan o.first.col + room Columns (line_width plan) (widths plan) o.first.col o.size.width + 2) = room-end Columns (line_width plan) (widths plan) o.first.col o.size.width a.lies.0.width in
                 let same : left plan o.first.col ≡ left plan j = ap (left plan) col in
                 let line : line_width plan o.first.col ≡ line_width plan j = ap (line_width plan) col in
                 past j (w + text_width (part j)) o e f (omega (arith, wide, to, is, same, line))
@@ -269,7 +269,7 @@ module _ (plan : Plan) (aligns : List Alignment) (fine : IsFine plan.style) (wel
 
       -- at the right edge of the table no owner reaches over
       apart-last : joint plan.grid.columns ≡ false
-      apart-last = not-joint plan.grid.columns (omega arith) wide (λ o at next at' next'. (let far = owner-owns well next in omega (arith, far.right, far.lies.right)))
+      apart-last = not-joint plan.grid.columns (omega arith) wide (λ o at next at' next'. (let far = owner-owns well next in omega (arith, far.right, far.lies.1.right)))
 
       -- where an arm is at an edge, a line has come to that edge
       reached-edge : (j : ℕ) → j ≤ plan.grid.columns → joint j ≡ false → text_width (each j part) ≡ left plan j
@@ -346,7 +346,7 @@ module _ (plan : Plan) (aligns : List Alignment) (fine : IsFine plan.style) (wel
           b = owner-owns well f
 
           high : j + o.size.width ≤ plan.grid.columns
-          high = omega (arith, a.lies.right, first)
+          high = omega (arith, a.lies.1.right, first)
 
           over : (k : ℕ) → j < k → k ≤ j + o.size.width → up k ≡ Some o
           over k low within = a.all u k a.top a.bottom (omega (arith, low, first)) (omega (arith, within, first))
@@ -358,7 +358,7 @@ module _ (plan : Plan) (aligns : List Alignment) (fine : IsFine plan.style) (wel
           begins = not-joint j (omega (arith, less)) wide (λ p x x' y y'. (let far = owner-owns well (x ∙ sym x' ∙ e) in omega (arith, far.left, first)))
 
           ends : joint (j + o.size.width) ≡ false
-          ends = not-joint (j + o.size.width) high wide (λ p x x' y y'. (let far = owner-owns well (x' ∙ sym x ∙ over (j + o.size.width) (omega (arith, a.lies.wide)) (omega arith)) in omega (arith, far.right, first)))
+          ends = not-joint (j + o.size.width) high wide (λ p x x' y y'. (let far = owner-owns well (x' ∙ sym x ∙ over (j + o.size.width) (omega (arith, a.lies.0.width)) (omega arith)) in omega (arith, far.right, first)))
 
           -- in its other columns stands nothing
           nothing : (k : ℕ) → k < o.size.width → each (j + 1 + k) part ≡ each (j + 1) part
@@ -372,7 +372,7 @@ module _ (plan : Plan) (aligns : List Alignment) (fine : IsFine plan.style) (wel
 
           before_end : each (j + o.size.width) part ≡ each j part ++ (edge_of j ++ shows plan aligns n o)
           before_end =
-              ap (λ x. each x part) (let s : j + o.size.width ≡ j + 1 + (o.size.width - 1) = omega (arith, a.lies.wide) in s) ∙ nothing (o.size.width - 1) (omega (arith, a.lies.wide))
+              ap (λ x. each x part) (let s : j + o.size.width ≡ j + 1 + (o.size.width - 1) = omega (arith, a.lies.0.width) in s) ∙ nothing (o.size.width - 1) (omega (arith, a.lies.0.width))
               ∙ each-more part j ∙ ap (λ x. each j part ++ (edge_of j ++ x)) (column-shows j o e f first)
 
           framed : (after : List ℕ) → line_at plan aligns n u d ≡ each (j + o.size.width) part ++ (edge_of (j + o.size.width) ++ after) → ShowsFramed j o

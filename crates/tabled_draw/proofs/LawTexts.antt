@@ -2,13 +2,14 @@
 use Rattle.tabled_draw.proofs.Common.{Alignment, Columns, IsFine, IsSeen, List, Plan, Position, Rectangle, Rows, ShowsTexts, Some, StandsAt, StandsFramed, StandsIn, [], aligned, alignment_in, and_from, any-from, ap, append_assoc, ap₂, arith, false, get_or, heights, holds, holds-from, indent_of, inl, inner_height, inner_left, inner_line, inner_top, inner_width, inr, is_hidden_in, left, length, line_at, line_height, line_width, lines_shown, not, owner_at, owner_in, picture_lines, refl, replicate, room, same_place, same_place-apart, shows, subst, sym, text_line, text_of_cell, text_width, top, widest, widths, ℕ, ◌&&◌, ◌++◌, ◌+◌, ◌-◌, ◌<◌, ◌∙◌, ◌≡◌, ◌≤◌, false≢true}
 use Rattle.tabled_draw.proofs.LawLines.{Framed, cell-framed}
 use Rattle.tabled_draw.proofs.Widths.{IsPlain, columns-append, columns-blanks, marks-wide, plain-blanks, plain-marks}
-use Rattle.tabled_draw.proofs.Owned.{LieWell, LiesIn, owned, owner-inside, owner-lies, owner-owns}
+use Rattle.tabled_draw.proofs.Owned.{LieWell, owned, owner-inside, owner-lies, owner-owns}
 use Rattle.tabled_draw.proofs.Owned.Owned.{alone, held}
 use Rattle.tabled_draw.proofs.Shares.{room-end}
 use Rattle.tabled_draw.proofs.Sizes.{line-least, room-enough}
 use Rattle.tabled_grid.proofs.Geometry.{cases_place}
 use Rattle.tabled_draw.proofs.LawPicture.{IsLine, line-above, line-in, locate, stands-at}
 use Rattle.tabled_draw.proofs.LawPicture.Where.{line, text}
+use Rattle.tabled_grid.specs.Rectangles.{HasArea, LiesInside}
 
 -- what no other merged cell holds owns itself
 pub owner-self : (es : List Rectangle) (p : Position) → is_hidden_in es p ≡ false → (owner_in es p).first ≡ p
@@ -46,7 +47,7 @@ module _ (plan : Plan) (aligns : List Alignment) (fine : IsFine plan.style) (wel
     self : o.first ≡ p
     self = owner-self plan.merged p it.seen
 
-    lies : LiesIn plan.grid.rows plan.grid.columns o
+    lies : HasArea o × LiesInside plan.grid.rows plan.grid.columns o
     lies = owner-lies well p it.inside.row it.inside.col
 
     row_is : o.first.row ≡ p.row
@@ -56,17 +57,17 @@ module _ (plan : Plan) (aligns : List Alignment) (fine : IsFine plan.style) (wel
     col_is = ap (λ (q : Position). q.col) self
 
     owns : (r : ℕ) → p.row < r → r ≤ p.row + o.size.height → owner_at plan r (p.col + 1) ≡ Some o
-    owns r above below = (owner-owns well (owner-inside plan.grid.rows plan.grid.columns plan.merged p.row p.col it.inside.row it.inside.col)).all r (p.col + 1) (omega (arith, row_is)) (omega (arith, row_is)) (omega (arith, col_is)) (omega (arith, col_is, lies.wide))
+    owns r above below = (owner-owns well (owner-inside plan.grid.rows plan.grid.columns plan.merged p.row p.col it.inside.row it.inside.col)).all r (p.col + 1) (omega (arith, row_is)) (omega (arith, row_is)) (omega (arith, col_is)) (omega (arith, col_is, lies.0.width))
 
     -- as many characters of borders stand before and behind it as there are
     shows-framed : (n : ℕ) → inner_top plan p ≤ n → n < top plan (p.row + o.size.height) → Stands n (shows plan aligns n o)
-    shows-framed n low high = elim (locate plan aligns p.row o.size.height n (omega (arith, row_is, lies.bottom)) low high) [
+    shows-framed n low high = elim (locate plan aligns p.row o.size.height n (omega (arith, row_is, lies.1.bottom)) low high) [
       | line r above below drawn is ↦
-          let low : p.row + o.size.height ≤ plan.grid.rows = omega (arith, row_is, lies.bottom) in
+          let low : p.row + o.size.height ≤ plan.grid.rows = omega (arith, row_is, lies.1.bottom) in
           let l : IsLine plan aligns n (line_at plan aligns n r (r + 1)) = subst (λ k. IsLine plan aligns k (line_at plan aligns k r (r + 1))) is (line-above plan aligns some wide_some r (omega (arith, low, below)) drawn) in
           framed-at (line_at plan aligns n r (r + 1)) l (cell-framed plan aligns fine well n r (r + 1) (record { some = some; low = omega arith; high = omega (arith, low, below); next = inr refl }) wide_some p.col o it.inside.col col_is (owns r above (omega (arith, below))) (owns (r + 1) (omega (arith, above)) (omega (arith, below))))
       | text r above below x y ↦
-          let low : p.row + o.size.height ≤ plan.grid.rows = omega (arith, row_is, lies.bottom) in
+          let low : p.row + o.size.height ≤ plan.grid.rows = omega (arith, row_is, lies.1.bottom) in
           framed-at (line_at plan aligns n (r + 1) (r + 1)) (line-in plan aligns some wide_some r n (omega (arith, low, below)) x y) (cell-framed plan aligns fine well n (r + 1) (r + 1) (record { some = some; low = omega arith; high = omega (arith, low, below); next = inl refl }) wide_some p.col o it.inside.col col_is (owns (r + 1) (omega (arith, above)) (omega (arith, below))) (owns (r + 1) (omega (arith, above)) (omega (arith, below))))
     ]
       where
@@ -88,7 +89,7 @@ module _ (plan : Plan) (aligns : List Alignment) (fine : IsFine plan.style) (wel
 
     width-inner : inner_width plan p ≡ wide + 2
     width-inner =
-        let end : left plan (p.col + o.size.width) ≡ left plan p.col + (line_width plan p.col + wide + 2) = room-end Columns (line_width plan) (widths plan) p.col o.size.width lies.wide in
+        let end : left plan (p.col + o.size.width) ≡ left plan p.col + (line_width plan p.col + wide + 2) = room-end Columns (line_width plan) (widths plan) p.col o.size.width lies.0.width in
         omega arith
 
     text-wide : (k : ℕ) → text_width (text_line plan.grid p k) + 2 ≤ inner_width plan p
@@ -97,7 +98,7 @@ module _ (plan : Plan) (aligns : List Alignment) (fine : IsFine plan.style) (wel
     text-high : length (lines_shown (text_of_cell plan.grid p)) ≤ inner_height plan p
     text-high =
         let enough : length (lines_shown (text_of_cell plan.grid p)) ≤ room Rows (line_height plan) (heights plan) p.row o.size.height = subst (λ (q : Position). length (lines_shown (text_of_cell plan.grid q)) ≤ room Rows (line_height plan) (heights plan) q.row o.size.height) self (room-enough Rows plan.style plan.grid plan.merged well p it.inside.row it.inside.col) in
-        let end : top plan (p.row + o.size.height) ≡ top plan p.row + (line_height plan p.row + room Rows (line_height plan) (heights plan) p.row o.size.height + 0) = room-end Rows (line_height plan) (heights plan) p.row o.size.height lies.high in
+        let end : top plan (p.row + o.size.height) ≡ top plan p.row + (line_height plan p.row + room Rows (line_height plan) (heights plan) p.row o.size.height + 0) = room-end Rows (line_height plan) (heights plan) p.row o.size.height lies.0.height in
         omega arith
 
     -- what it shows, in other words

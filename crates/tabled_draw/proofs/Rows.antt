@@ -95,7 +95,7 @@ module _ (plan : Plan) (well : LieWell plan.grid.rows plan.grid.columns plan.mer
 -- ---- lines as they are drawn
 
 pub end-inside : (m : SpanMap) (rows columns i : ℕ) (row : List (Option Rectangle)) → Fits m rows columns → IsOwnerRow rows columns (rectangles m) i row → EndInside columns row
-end-inside m rows columns i row fits is = record { each = λ j o less e begin. (let there = owner-owns (fits-well m rows columns fits) (sym (is.each (j + 1) (omega (arith, less))) ∙ e) in omega (arith, there.lies.right, begin)) }
+end-inside m rows columns i row fits is = record { each = λ j o less e begin. (let there = owner-owns (fits-well m rows columns fits) (sym (is.each (j + 1) (omega (arith, less))) ∙ e) in omega (arith, there.lies.1.right, begin)) }
 
 -- ---- lines with a newline after each
 
@@ -130,7 +130,7 @@ module _ (sheet : Sheet) (g : Grid (List ℕ)) (m : SpanMap) (fits : Fits m g.ro
       inside-is texts next j less (Some o) e one = elim (cases_eq o.first.col j) [
         | inl at ↦
             cond-true _ _ _ (eq-eqb o.first.col j at)
-            ∙ ap₂ (λ x y. aligned (alignment_in aligns j) x y) (room-is j o.first.col o.size.width at (omega (arith, there.lies.right, at))) (next j o less (sym e) at one)
+            ∙ ap₂ (λ x y. aligned (alignment_in aligns j) x y) (room-is j o.first.col o.size.width at (omega (arith, there.lies.1.right, at))) (next j o less (sym e) at one)
             ∙ ap (λ k. aligned (alignment_in aligns k) (room Columns (line_width plan) (widths plan) o.first.col o.size.width) line) (sym at)
             ∙ sym (cond-true _ _ _ (eq-eqb o.first.col j at))
         | inr apart ↦ cond-false _ _ _ (ne_eqb o.first.col j apart) ∙ sym (cond-false _ _ _ (ne_eqb o.first.col j apart))

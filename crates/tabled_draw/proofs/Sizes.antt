@@ -1,15 +1,17 @@
 -- Columns are as wide, and rows as high, as what they show asks.
-use Rattle.tabled_draw.proofs.Common.{ASCII, Alignment, AllByRecursion, AreEdges, AreNoLargerThanAsked, Columns, Fits, Grid, List, Measured, Member, Option, Plan, Position, Rectangle, Rows, Size, Some, SpanMap, Style, [], across, and_from, ap, ap₂, arith, asks, border, by_number, cases_Bool, cases_eq, cases_lt, cell_at, cond, cond-false, cond-true, count_along, each, eqb, ext_get_or, fold, fold-append, get_or, get_or-replicate, get_or-set_other, get_or-set_same, get_or_past, grown_for, grown_sizes, in_order, inl, inr, is_before, lacking, largest, least, length, length-replicate, length-set, line_of, line_size, lines_in, map_grid, max, most_asked, nat_tests, own, own_sizes, owner_in, pad, place, place_in, plan_of, raised, rectangles, refl, replicate, room, same_place, same_place-self, set, share, sized, start_of, subst, suc, sym, take, take_more, takes, text_of_cell, text_width, true, unwrap_or, zero, ℕ, ◌+◌, ◌-◌, ◌<◌, ◌∙◌, ◌∷◌, ◌≡◌, ◌≢◌, ◌≤◌, ◌⊎◌}
+use Rattle.tabled_grid.specs.Order.{is_before}
+use Rattle.tabled_draw.proofs.Common.{ASCII, Alignment, AllByRecursion, AreEdges, AreNoLargerThanAsked, Columns, Fits, Grid, List, Measured, Member, Option, Plan, Position, Rectangle, Rows, Size, Some, SpanMap, Style, [], across, and_from, ap, ap₂, arith, asks, border, by_number, cases_Bool, cases_eq, cases_lt, cell_at, cond, cond-false, cond-true, count_along, each, eqb, ext_get_or, fold, fold-append, get_or, get_or-replicate, get_or-set_other, get_or-set_same, get_or_past, grown_for, grown_sizes, in_order, inl, inr, lacking, largest, least, length, length-replicate, length-set, line_of, line_size, lines_in, map_grid, max, most_asked, nat_tests, own, own_sizes, owner_in, pad, place, place_in, plan_of, raised, rectangles, refl, replicate, room, same_place, same_place-self, set, share, sized, start_of, subst, suc, sym, take, take_more, takes, text_of_cell, text_width, true, unwrap_or, zero, ℕ, ◌+◌, ◌-◌, ◌<◌, ◌∙◌, ◌∷◌, ◌≡◌, ◌≢◌, ◌≤◌, ◌⊎◌}
 use Rattle.tabled_draw.proofs.Each.{get-singles, length-singles}
 use Rattle.tabled_draw.proofs.Order.{all-of, member-ordered, ordered-member}
 use Rattle.tabled_draw.proofs.Widths.{columns-nil}
 use Rattle.tabled_draw.proofs.Shares.{Larger, get-grown, grown-enough, grown-larger, larger-trans, room-larger, room-one, room-span, room-without, share-low, share-outside, span, span-larger, start-more}
 use Rattle.tabled_draw.proofs.Before.{after-next, before-from, before-next, before-none, before-row, cases_before, after-from, here-next}
-use Rattle.tabled_draw.proofs.Owned.{LieWell, LiesIn, owned, member-at, fits-well}
+use Rattle.tabled_draw.proofs.Owned.{LieWell, owned, member-at, fits-well}
 use Rattle.tabled_draw.proofs.Owned.Owned.{alone, held}
 use Rattle.tabled_draw.specs.Sizes.{sizes}
 use Rattle.tabled_grid.proofs.PiecePlaces.{place_is}
 use Rattle.tabled_grid.specs.declared.records.axis.Axis.{Axis}
+use Rattle.tabled_grid.specs.Rectangles.{HasArea, LiesInside}
 
 largest-least : (low : ℕ) (f : ℕ → ℕ) (n i : ℕ) → i < n → f i ≤ largest low n f
 largest-least low f zero i h = absurd (omega arith)
@@ -26,8 +28,8 @@ one_line : (axis : Axis) → lines_in axis (sized 1 1) ≡ 1
 one_line axis = grind (arith, nat_tests)
 
 -- what lies in a table has rows and columns of it
-pub lies-along : {A : Type 0} (axis : Axis) (g : Grid A) (e : Rectangle) → LiesIn g.rows g.columns e → (1 ≤ lines_in axis e.size) × (line_of axis e.first + lines_in axis e.size ≤ count_along axis g)
-lies-along axis g e h1 = grind (arith, nat_tests)
+pub lies-along : {A : Type 0} (axis : Axis) (g : Grid A) (e : Rectangle) → HasArea e → LiesInside g.rows g.columns e → (1 ≤ lines_in axis e.size) × (line_of axis e.first + lines_in axis e.size ≤ count_along axis g)
+lies-along axis g e h1 h2 = grind (arith, nat_tests)
 
 own-size : Axis → Grid (List ℕ) → List Rectangle → ℕ → ℕ
 own-size axis g es k = largest (least axis) (count_along (across axis) g) (λ i. own axis g es (place_in axis k i))
@@ -97,12 +99,12 @@ module _ (axis : Axis) (style : Style) (g : Grid (List ℕ)) where
     -- and the other way round, where it lies in the table
     in-order : LieWell g.rows g.columns es → (e : Rectangle) → Member e es → Member e (in_order axis g es)
     in-order well e m =
-        let here = lies-along axis g e (well.lies e m) in
+        let here = lies-along axis g e (well.lies e m).0 (well.lies e m).1 in
         member-ordered (λ (x : Rectangle). count x) (count_along axis g + 1) (by_number (λ (x : Rectangle). begin x) (count_along axis g) es) e (member-ordered (λ (x : Rectangle). begin x) (count_along axis g) es e m (omega (arith, here.0, here.1))) (omega (arith, here.0, here.1))
 
     lie-among : LieWell g.rows g.columns es → LieAmong (own_sizes axis g es) (in_order axis g es)
     unfolding LieAmong
-    lie-among well e m = let here = lies-along axis g e (well.lies e (from-order e m)) in (here.0, omega (arith, here.1, length-own axis g es))
+    lie-among well e m = let here = lies-along axis g e (well.lies e (from-order e m)).0 (well.lies e (from-order e m)).1 in (here.0, omega (arith, here.1, length-own axis g es))
 
     pub start-next : (k : ℕ) → start_of axis drawn (sizes axis style g es) (k + 1) ≡ start_of axis drawn (sizes axis style g es) k + (drawn k + get_or (sizes axis style g es) k 0 + pad axis)
     start-next k = start-more axis drawn (sizes axis style g es) k
@@ -241,14 +243,14 @@ pub order-is : (axis : Axis) (g : Grid (List ℕ)) (m : SpanMap) (xs order : Lis
     → ((k n : ℕ) → AllByRecursion (λ (e : Rectangle). (lines_in axis e.size < k) × (line_of axis e.first < n)) xs → order ≡ by_number (λ (e : Rectangle). lines_in axis e.size) k (by_number (λ (e : Rectangle). line_of axis e.first) n xs))
     → order ≡ in_order axis g (rectangles m)
 order-is axis g m xs order fits is put =
-    put (count_along axis g + 1) (count_along axis g) (rw is (all-of (λ (e : Rectangle). (lines_in axis e.size < count_along axis g + 1) × (line_of axis e.first < count_along axis g)) (rectangles m) (λ e among. below (lies-along axis g e ((fits-well m g.rows g.columns fits).lies e among)))))
+    put (count_along axis g + 1) (count_along axis g) (rw is (all-of (λ (e : Rectangle). (lines_in axis e.size < count_along axis g + 1) × (line_of axis e.first < count_along axis g)) (rectangles m) (λ e among. below (let lies = (fits-well m g.rows g.columns fits).lies e among in lies-along axis g e lies.0 lies.1))))
     ∙ ap (in_order axis g) is
   where
     below : {n at : ℕ} → (1 ≤ n) × (at + n ≤ count_along axis g) → (n < count_along axis g + 1) × (at < count_along axis g)
     below h = (omega (arith, h.0, h.1), omega (arith, h.0, h.1))
 
 -- one of those in order lies in the table
-pub ordered-at : (axis : Axis) (g : Grid (List ℕ)) (m : SpanMap) (rows columns : ℕ) → Fits m rows columns → (xs : List Rectangle) → xs ≡ in_order axis g (rectangles m) → (k : ℕ) (e : Rectangle) → k < length xs → e ≡ get_or xs k e → LiesIn rows columns e
+pub ordered-at : (axis : Axis) (g : Grid (List ℕ)) (m : SpanMap) (rows columns : ℕ) → Fits m rows columns → (xs : List Rectangle) → xs ≡ in_order axis g (rectangles m) → (k : ℕ) (e : Rectangle) → k < length xs → e ≡ get_or xs k e → HasArea e × LiesInside rows columns e
 ordered-at axis g m rows columns fits xs is k e h at =
     let among : Member e (in_order axis g (rectangles m)) = subst (λ (ys : List Rectangle). Member e ys) is (subst (λ (x : Rectangle). Member x xs) (sym at) (member-at xs k e h)) in
     (fits-well m rows columns fits).lies e (from-order axis ASCII g (rectangles m) e among)
@@ -303,7 +305,7 @@ place-within axis g k x h1 h2 = grind (arith, nat_tests)
 module _ (axis : Axis) (g : Grid (List ℕ)) (es : List Rectangle) where
   -- what is asked by the text at a place, if it has been asked
   asked_at : ℕ → ℕ → ℕ → ℕ → ℕ
-  asked_at i j k x = cond (is_before i j (place_in axis k x)) (own axis g es (place_in axis k x)) 0
+  asked_at i j k x = cond (is_before (place_in axis k x) (place i j)) (own axis g es (place_in axis k x)) 0
 
   pub measured-none : (sizes : List ℕ) → sizes ≡ replicate (count_along axis g) (least axis) → Measured axis g es 0 0 sizes
   unfolding asked_at
@@ -319,7 +321,7 @@ module _ (axis : Axis) (g : Grid (List ℕ)) (es : List Rectangle) where
   pub measured-all : (i : ℕ) (sizes : List ℕ) → i ≡ g.rows → Measured axis g es i 0 sizes → sizes ≡ own_sizes axis g es
   unfolding asked_at own-size
   measured-all i sizes e was = is-each (own-size axis g es) (count_along axis g) sizes was.long
-      (λ k h. was.each k h ∙ (largest-same (least axis) (asked_at i 0 k) (λ x. own axis g es (place_in axis k x)) (count_along (across axis) g) (λ x less. cond-true _ _ _ (before-from i 0 (place_in axis k x) (inl (omega (arith, (place-within axis g k x h less).0, e)))))))
+      (λ k h. was.each k h ∙ (largest-same (least axis) (asked_at i 0 k) (λ x. own axis g es (place_in axis k x)) (count_along (across axis) g) (λ x less. cond-true _ _ _ (before-from (place_in axis k x) (place i 0) (inl (omega (arith, (place-within axis g k x h less).0, e)))))))
 
   module _ (i j : ℕ) (h : i < g.rows) (w : j < g.columns) (sizes : List ℕ) (was : Measured axis g es i j sizes) where
     pub p : Position
@@ -338,8 +340,8 @@ module _ (axis : Axis) (g : Grid (List ℕ)) (es : List Rectangle) where
     here =
         let x = line_of (across axis) p in
         let at : place_in axis line x ≡ p = place_is axis p in
-        let none : asked_at i j line x ≡ 0 = cond-false _ _ _ (ap (is_before i j) at ∙ after-from i j p (inr (refl, omega arith))) in
-        let now : asked_at i (j + 1) line x ≡ own axis g es p = cond-true _ _ _ (ap (is_before i (j + 1)) at ∙ here-next i j p refl) ∙ ap (own axis g es) at in
+        let none : asked_at i j line x ≡ 0 = cond-false _ _ _ (ap (λ q. is_before q (place i j)) at ∙ after-from p (place i j) (inr (refl, omega arith))) in
+        let now : asked_at i (j + 1) line x ≡ own axis g es p = cond-true _ _ _ (ap (λ q. is_before q (place i (j + 1))) at ∙ here-next i j p refl) ∙ ap (own axis g es) at in
         largest-raised (least axis) (asked_at i j line) (asked_at i (j + 1) line) (count_along (across axis) g) x (line-within (across axis) g i j h w) none (λ k apart. other line k (λ e. apart (in-line axis line k p e).1))
         ∙ ap (max (largest (least axis) (count_along (across axis) g) (asked_at i j line))) now
 

@@ -1,7 +1,8 @@
 -- The owners of places: the merged cells that hold them, or the places themselves.
-use Rattle.std.specs.Prelude.{◌≡◌, ◌+◌, ◌-◌, ◌<◌, ◌==◌, ◌&&◌, ◌||◌, if◌then◌else◌, ℕ, Bool, false, true, List, [], ◌∷◌, Option, None, Some, length, nat_le, nat_lt, slice_index_or, suc}
+use Rattle.std.specs.Prelude.{◌≡◌, ◌+◌, ◌-◌, ◌<◌, ◌&&◌, if◌then◌else◌, ℕ, Bool, false, true, List, [], ◌∷◌, Option, None, Some, length, nat_le, nat_lt, slice_index_or, suc}
 use Rattle.std.specs.Option.{unwrap_or}
 use Rattle.tabled_grid.specs.Entity.{place, same_place}
+use Rattle.tabled_grid.specs.Order.{is_before}
 use Rattle.tabled_grid.specs.Rectangles.{holds}
 use Rattle.tabled_grid.specs.Spans.{rectangle, sized}
 use Rattle.tabled_grid.specs.declared.config.position.Position.{Position}
@@ -30,14 +31,10 @@ pub record IsOwnerRow (rows columns : ℕ) (es : List Rectangle) (i : ℕ) (row 
   pub long : length row ≡ columns + 2
   pub each : (j : ℕ) → j < columns + 2 → slice_index_or row j None ≡ owner rows columns es i j
 
--- a place stands before row i's column j, row by row
-abbrev pub is_before : ℕ → ℕ → Position → Bool
-is_before i j p = nat_lt p.row i || ((p.row == i) && nat_lt p.col j)
-
 -- how many of the first anchors of a list stand before row i's column j
 abbrev pub count_before : ℕ → ℕ → List Rectangle → ℕ
 count_before i j [] = 0
-count_before i j (e ∷ es) = if is_before i j e.first then suc (count_before i j es) else 0
+count_before i j (e ∷ es) = if is_before e.first (place i j) then suc (count_before i j es) else 0
 
 -- an owner's rectangle holds a place
 abbrev pub is_held_by : Owner → Position → Bool

@@ -3,13 +3,14 @@ use Rattle.std.specs.Prelude.{◌≡◌, ◌+◌, ◌-◌, ◌/◌, ◌%◌, ◌
 use Rattle.std.specs.List.{AllByRecursion, fold}
 use Rattle.std.specs.Option.{unwrap_or}
 use Rattle.tabled_draw.specs.Each.{by_number, each, is_in_range, largest, total}
-use Rattle.tabled_draw.specs.Owners.{Owner, is_before, owner_in}
+use Rattle.tabled_draw.specs.Owners.{Owner, owner_in}
 use Rattle.tabled_draw.specs.Borders.{border}
 use Rattle.tabled_draw.specs.declared.style.Style.{Style}
 use Rattle.tabled_draw.specs.Texts.{lines_shown, widest}
 use Rattle.tabled_grid.specs.Along.{count_along}
 use Rattle.tabled_grid.specs.Axis.{across, line_of, lines_in, place_in}
-use Rattle.tabled_grid.specs.Entity.{same_place}
+use Rattle.tabled_grid.specs.Entity.{place, same_place}
+use Rattle.tabled_grid.specs.Order.{is_before}
 use Rattle.tabled_grid.specs.Grid.{Grid, cell_at}
 use Rattle.tabled_grid.specs.declared.config.position.Position.{Position}
 use Rattle.tabled_grid.specs.declared.records.axis.Axis.{Axis}
@@ -96,7 +97,7 @@ sizes axis style g es = grown axis style g es (own_sizes axis g es)
 -- the most that is asked by the texts before row i's column j, and of each row or column whatever stands there
 pub record Measured (axis : Axis) (g : Grid (List ℕ)) (es : List Rectangle) (i j : ℕ) (sizes : List ℕ) : Type 0 where
   pub long : length sizes ≡ count_along axis g
-  pub each : (k : ℕ) → k < count_along axis g → slice_index_or sizes k 0 ≡ largest (least axis) (count_along (across axis) g) (λ x. if is_before i j (place_in axis k x) then own axis g es (place_in axis k x) else 0)
+  pub each : (k : ℕ) → k < count_along axis g → slice_index_or sizes k 0 ≡ largest (least axis) (count_along (across axis) g) (λ x. if is_before (place_in axis k x) (place i j) then own axis g es (place_in axis k x) else 0)
 
 -- the sizes, of which that of a place's line is at least what the text there asks
 abbrev pub raised : Axis → Grid (List ℕ) → List ℕ → Owner → Position → List ℕ
