@@ -107,8 +107,6 @@ fn escaped(alloc: Global, text: &str) -> Result<String, AllocError>
 {
     let mut out = String::with_capacity(alloc, text.len())?;
     push_text(alloc, &mut out, text)?;
-    // No effect: the proof reads here that these bytes are a text.
-    let _ = out.as_str();
     Ok(out)
 }
 
