@@ -1,0 +1,4 @@
+pub mod Bytes
+pub mod Formed
+pub mod Parsed
+pub mod ReadBack
