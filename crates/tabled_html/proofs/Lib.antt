@@ -1,0 +1,2 @@
+pub mod Grids
+pub mod Owned

@@ -1,0 +1,68 @@
+-- What holds of tables as HTML.
+use Rattle.std.specs.Prelude.{◌≡◌, ◌≤◌, ◌<◌, ◌==◌, ◌&&◌, ◌||◌, ℕ, Bool, List, [], ◌∷◌, Some, false, not, Err, Ok, Result}
+use Rattle.tabled_grid.specs.Entity.{place}
+use Rattle.tabled_grid.specs.Grid.{Grid, map_grid}
+use Rattle.tabled_grid.specs.Spans.{SpanMap, get, rectangles, sized}
+use Rattle.tabled_grid.specs.declared.config.position.Position.{Position}
+use Rattle.tabled_grid.specs.declared.config.rectangle.Rectangle.{Rectangle}
+use Rattle.tabled_grid.specs.declared.config.size.Size.{Size}
+use Rattle.tabled_html_reading.specs.Areas.{Area, IsOutside}
+use Rattle.tabled_html_reading.specs.Building.{parsed}
+use Rattle.tabled_html.specs.Elements.{td, text_of_cell}
+use Rattle.tabled_html_reading.specs.Escaping.{shown}
+use Rattle.tabled_html_reading.specs.Forming.{Cell, Forming, Td, any_below, cells_at, forming_a_table, lacks_anchors}
+use Rattle.tabled_html.specs.Owners.{owner_in}
+use Rattle.tabled_html.specs.declared.fault.WriteError.{WriteError}
+use Rattle.tabled_html.specs.declared.fault.WriteError.TheVariants.{Failed, OutOfMemory}
+
+-- no merged cell takes more columns or rows than the standard lets an attribute say
+pub record AreWithinLimits (m : SpanMap) : Type 0 where
+  pub widths : (a : Position) (size : Size) → get m a ≡ Some size → size.width ≤ 1000
+  pub heights : (a : Position) (size : Size) → get m a ≡ Some size → size.height ≤ 65534
+
+-- the slots of an owner, whose columns are counted by x and its rows by y
+abbrev pub area_of : Rectangle → Area
+area_of o = record { x = o.first.col; y = o.first.row; width = o.size.width; height = o.size.height }
+
+abbrev pub own_area : SpanMap → ℕ → ℕ → Area
+own_area m x y = area_of (owner_in (rectangles m) (place y x))
+
+-- the element of slots that are one cell
+abbrev pub element_of : Grid (List ℕ) → Area → Td
+element_of g a = td (sized a.height a.width) (text_of_cell g (place a.y a.x))
+
+-- the cell of an owner, anchored at its first place
+abbrev pub cell_of : Grid (List ℕ) → Rectangle → Cell
+cell_of g o = record { x = o.first.col; y = o.first.row; element = td o.size (text_of_cell g o.first) }
+
+-- an owner begins at its own place
+abbrev pub begins_at : SpanMap → ℕ → ℕ → Bool
+begins_at m x y = ((owner_in (rectangles m) (place y x)).first.col == x) && ((owner_in (rectangles m) (place y x)).first.row == y)
+
+-- in one of the rows no owner begins, or in one of the columns
+abbrev pub lacks_owners : Grid (List ℕ) → SpanMap → Bool
+lacks_owners g m =
+    any_below g.rows (λ y. not (any_below g.columns (λ x. begins_at m x y)))
+    || any_below g.columns (λ x. not (any_below g.rows (λ y. begins_at m x y)))
+
+-- a formed table is the grid: it has as many columns and rows, no two cells share a slot, and each slot has the one cell
+-- of its owner, and no other slot has one; the table model error of a row or column without anchored cells is that of one in which no owner begins
+pub record IsFormed (g : Grid (List ℕ)) (m : SpanMap) (f : Forming) : Type 0 where
+  pub columns : f.xwidth ≡ g.columns
+  pub rows : f.ywidth ≡ g.rows
+  pub apart : f.overlaps ≡ false
+  pub slots : (x y : ℕ) → x < g.columns → y < g.rows → cells_at f.covered x y ≡ cell_of g (owner_in (rectangles m) (place y x)) ∷ []
+  pub outside : (x y : ℕ) → IsOutside g.columns g.rows x y → cells_at f.covered x y ≡ []
+  pub anchors : lacks_anchors f ≡ lacks_owners g m
+
+-- bytes are read as elements that form the grid, with its texts as they are shown
+pub record Shows (g : Grid (List ℕ)) (m : SpanMap) (bytes : List ℕ) : Type 0 where
+  pub trs : List (List Td)
+  pub read : parsed bytes ≡ Some trs
+  pub formed : IsFormed (map_grid shown g) m (forming_a_table trs)
+
+-- a writer failed, and this holds then
+abbrev pub OnFailed : Result (Unit {0}) WriteError → Type 0 → Type 0
+OnFailed (Ok _) P = Unit {0}
+OnFailed (Err OutOfMemory) P = Unit {0}
+OnFailed (Err (Failed error)) P = P
