@@ -11,14 +11,13 @@ use Rattle.std.proofs.lemmas.Bool.{and_from, false_from_ne_true, and_parts}
 use Rattle.std.proofs.lemmas.Bool.Decides.{nat_tests}
 use Rattle.tabled_grid.proofs.Fitting.{keep_fitting-fits}
 use Rattle.tabled_grid.proofs.Grids.{cell_at-map_grid}
-use Rattle.tabled_grid.proofs.Members.{Member, find-member}
-use Rattle.tabled_grid.proofs.SortedEntries.{get-rectangles}
+use Rattle.tabled_grid.proofs.Members.{Member, get-member, member-get}
 use Rattle.tabled_grid.proofs.SpanMaps.{hidden_by, size_at-none, size_at-some}
 use Rattle.std.proofs.lemmas.List.{map-append}
 use Rattle.tabled_grid.specs.Fitting.{keep_fitting}
 use Rattle.tabled_grid.specs.Grid.{IsEmptyWithoutRows, cell_at, map_grid}
 use Rattle.tabled_html_reading.proofs.Formed.{tiled-formed}
-use Rattle.tabled_html.proofs.Owned.{LieWell, Owned, anchor-has, fits-well, member-owner, owned, owner-begins, owner-holds, owner-lies, owner-self, owner-shared}
+use Rattle.tabled_html.proofs.Owned.{LieWell, fits-well, member-owner, owned, owner-begins, owner-holds, owner-lies, owner-self, owner-shared}
 use Rattle.tabled_html.proofs.Owned.Owned.{alone, held}
 use Rattle.tabled_html_reading.proofs.Parsed.{table-parsed}
 use Rattle.tabled_html_reading.specs.Areas.{Tiles, begins, elements_at, rows_in, series}
@@ -60,36 +59,34 @@ module _ (g : Grid (List ℕ)) (m : SpanMap) (fits : Fits m g.rows g.columns) wh
 
   module _ (limits : AreWithinLimits m) where
     narrow : (p : Position) → (owner_in (rectangles m) p).size.width ≤ 1000
-    narrow p = by (owned (rectangles m) p)
-      where
-        by : Owned (rectangles m) p (owner_in (rectangles m) p) → (owner_in (rectangles m) p).size.width ≤ 1000
-        by (held member h) = limits.widths _ _ (anchor-has m (owner_in (rectangles m) p) member)
-        by (alone is never) = omega (arith, ap (λ (o : Rectangle). o.size.width) is)
+    narrow p = elim (owned (rectangles m) p) [
+      | held member h ↦ limits.widths _ _ (member-get m (owner_in (rectangles m) p) member)
+      | alone is never ↦ omega (arith, ap (λ (o : Rectangle). o.size.width) is)
+    ]
 
     low : (p : Position) → (owner_in (rectangles m) p).size.height ≤ 65534
-    low p = by (owned (rectangles m) p)
-      where
-        by : Owned (rectangles m) p (owner_in (rectangles m) p) → (owner_in (rectangles m) p).size.height ≤ 65534
-        by (held member h) = limits.heights _ _ (anchor-has m (owner_in (rectangles m) p) member)
-        by (alone is never) = omega (arith, ap (λ (o : Rectangle). o.size.height) is)
+    low p = elim (owned (rectangles m) p) [
+      | held member h ↦ limits.heights _ _ (member-get m (owner_in (rectangles m) p) member)
+      | alone is never ↦ omega (arith, ap (λ (o : Rectangle). o.size.height) is)
+    ]
 
     tiles : Tiles g.columns g.rows (own_area m) (element_of g)
     tiles = record {
       holds = λ x y h k. (let i = owner-holds (rectangles m) (place y x) in record { left = i.left; right = i.right; top = i.top; bottom = i.bottom });
-      shared = λ x y u v h k h' k' i. ap area_of (owner-shared g.rows g.columns (rectangles m) well (place y x) (place v u) (record { top = i.top; bottom = i.bottom; left = i.left; right = i.right }));
-      across = λ x y h k. (owner-lies g.rows g.columns (rectangles m) well (place y x) k h).right;
-      down = λ x y h k. (owner-lies g.rows g.columns (rectangles m) well (place y x) k h).bottom;
-      wide = λ x y h k. colspan-is _ (owner-lies g.rows g.columns (rectangles m) well (place y x) k h).wide (narrow (place y x));
-      high = λ x y h k. rowspan-is _ (owner-lies g.rows g.columns (rectangles m) well (place y x) k h).high (low (place y x));
+      shared = λ x y u v h k h' k' i. ap area_of (owner-shared well (place y x) (place v u) (record { top = i.top; bottom = i.bottom; left = i.left; right = i.right }));
+      across = λ x y h k. (owner-lies well (place y x) k h).1.right;
+      down = λ x y h k. (owner-lies well (place y x) k h).1.bottom;
+      wide = λ x y h k. colspan-is _ (owner-lies well (place y x) k h).0.width (narrow (place y x));
+      high = λ x y h k. rowspan-is _ (owner-lies well (place y x) k h).0.height (low (place y x));
     }
 
   -- ---- the written rows
 
   hidden-apart : (p : Position) → is_hidden m p ≡ true → (owner_in (rectangles m) p).first ≡ p → ⊥
   hidden-apart p hidden same =
-      let by = hidden_by m p hidden in
-      let member : Member (rectangle by.anchor by.size) (rectangles m) = find-member (rectangles m) by.anchor by.size (sym (get-rectangles m by.anchor) ∙ by.has) in
-      by.other (sym (ap (λ (o : Rectangle). o.first) (member-owner g.rows g.columns (rectangles m) well (rectangle by.anchor by.size) p member by.holds)) ∙ same)
+      let other = hidden_by m p hidden in
+      let member : Member (rectangle other.anchor other.size) (rectangles m) = get-member m (rectangle other.anchor other.size) other.has in
+      other.other (sym (ap (λ (o : Rectangle). o.first) (member-owner well (rectangle other.anchor other.size) p member other.holds)) ∙ same)
 
   at-place : (i j : ℕ) → elements_at (own_area m) (element_of g) i j ≡ tds_at g m (place i j)
   at-place i j = by (is_hidden m (place i j)) refl
@@ -105,7 +102,7 @@ module _ (g : Grid (List ℕ)) (m : SpanMap) (fits : Fits m g.rows g.columns) wh
           here a b t = grind (arith, nat_tests)
       by false seen =
           let first : (owner_in (rectangles m) (place i j)).first ≡ place i j = owner-self (rectangles m) (place i j) seen in
-          let is : rectangle (place i j) (size_at m (place i j)) ≡ owner_in (rectangles m) (place i j) = owner-begins m g.rows g.columns fits (place i j) first in
+          let is : rectangle (place i j) (size_at m (place i j)) ≡ owner_in (rectangles m) (place i j) = owner-begins m (place i j) first in
           cond-true _ _ _ (and_from _ _ (eq-eqb _ _ (ap (λ (p : Position). p.col) first)) (eq-eqb _ _ (ap (λ (p : Position). p.row) first)))
           ∙ ap (λ (o : Rectangle). element_of g (area_of o) ∷ []) (sym is)
 

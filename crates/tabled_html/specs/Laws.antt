@@ -24,6 +24,7 @@ pub record AreWithinLimits (m : SpanMap) : Type 0 where
 abbrev pub area_of : Rectangle → Area
 area_of o = record { x = o.first.col; y = o.first.row; width = o.size.width; height = o.size.height }
 
+-- the slots of the owner of a slot
 abbrev pub own_area : SpanMap → ℕ → ℕ → Area
 own_area m x y = area_of (owner_in (rectangles m) (place y x))
 

@@ -1,8 +1,7 @@
 //! Why a table was not written.
 
 use std::alloc::AllocError;
-use std::fmt;
-use std::io;
+use std::{fmt, io};
 
 /// Why a table was not written.
 ///

@@ -3,9 +3,11 @@
 ghost use Rattle.std.specs.Io.KnownBytes.{Appends};
 ghost use Rattle.std.specs.List.{flat_map};
 ghost use Rattle.std.specs.Prelude.{◌≡◌, ◌<◌, Err, OnOk, decimal};
-ghost use Rattle.tabled_grid.specs.Covers.{cover_of};
+ghost use Rattle.tabled_grid.specs.Covers.{IsCoverOf};
+ghost use Rattle.tabled_grid.specs.Entity.{place};
 ghost use Rattle.tabled_grid.specs.Fitting.{keep_fitting};
 ghost use Rattle.tabled_grid.specs.Grid.{IsEmptyWithoutRows, IsInside, map_grid};
+ghost use Rattle.tabled_grid.specs.Spans.{rectangle, sized};
 ghost use Rattle.tabled_held.specs.Pens.{Sends};
 ghost use Rattle.tabled_held.specs.Sent.{IsCutShort};
 ghost use Rattle.tabled_html.specs.Elements.{html, span_attribute, td, tds_at, tr_of, trs_of};
@@ -93,12 +95,14 @@ where
     R::Cell: CellText,
     requires well { R.is_well_formed records.now }
     requires inside { IsInside (R.grid records.now) pos }
-    requires cover { cover.now ≡ cover_of spans.now (R.grid records.now).rows (R.grid records.now).columns }
+    requires block { cover.now.block ≡ rectangle (place 0 0) (sized (R.grid records.now).rows (R.grid records.now).columns) }
+    requires cover { IsCoverOf spans.now cover.now }
     ensures { Sends W.contents pen.old pen.new (flat_map td_bytes (tds_at (map_grid R.Cell.text_of (R.grid records.now)) spans.now pos)) }
 {
-    if !cover.is_hidden(pos) {
-        write_cell(pen, spans.size(pos), records.get_text(pos).as_bytes());
+    if cover.is_hidden(pos) {
+        return;
     }
+    write_cell(pen, spans.size(pos), records.get_text(pos).as_bytes());
 }
 
 /// Writes a row.
@@ -115,7 +119,8 @@ where
     R::Cell: CellText,
     requires well { R.is_well_formed records.now }
     requires row { i < (R.grid records.now).rows }
-    requires cover { cover.now ≡ cover_of spans.now (R.grid records.now).rows (R.grid records.now).columns }
+    requires block { cover.now.block ≡ rectangle (place 0 0) (sized (R.grid records.now).rows (R.grid records.now).columns) }
+    requires cover { IsCoverOf spans.now cover.now }
     ensures { Sends W.contents pen.old pen.new (tr_bytes (tr_of (map_grid R.Cell.text_of (R.grid records.now)) spans.now i)) }
 {
     pen.send(b"<tr>");
@@ -132,7 +137,8 @@ where
     R: Records + ExactRecords + PeekableRecords,
     R::Cell: CellText,
     requires well { R.is_well_formed records.now }
-    requires cover { cover.now ≡ cover_of spans.now (R.grid records.now).rows (R.grid records.now).columns }
+    requires block { cover.now.block ≡ rectangle (place 0 0) (sized (R.grid records.now).rows (R.grid records.now).columns) }
+    requires cover { IsCoverOf spans.now cover.now }
     ensures { Sends W.contents pen.old pen.new (table_bytes (trs_of (map_grid R.Cell.text_of (R.grid records.now)) spans.now)) }
 {
     pen.send(b"<table>\n");

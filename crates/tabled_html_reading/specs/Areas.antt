@@ -53,9 +53,11 @@ lacks_beginnings columns rows own =
 abbrev pub elements_at : (ℕ → ℕ → Area) → (Area → Td) → ℕ → ℕ → List Td
 elements_at own element y x = if begins own x y then element (own x y) ∷ [] else []
 
+-- the elements of a row
 abbrev pub row_in : ℕ → (ℕ → ℕ → Area) → (Area → Td) → ℕ → List Td
 row_in columns own element y = series columns (elements_at own element y)
 
+-- the elements of each row of a table
 abbrev pub rows_in : ℕ → ℕ → (ℕ → ℕ → Area) → (Area → Td) → List (List Td)
 rows_in columns rows own element = series rows (λ y. row_in columns own element y ∷ [])
 

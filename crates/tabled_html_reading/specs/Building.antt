@@ -16,6 +16,7 @@ abbrev pub number_behind : ℕ → List ℕ → Option ℕ
 number_behind n [] = Some n
 number_behind n (b ∷ bs) = if is_digit b then number_behind (n * 10 + (b - 48)) bs else None
 
+-- the number that digits say, of which there has to be one
 abbrev pub number : List ℕ → Option ℕ
 number [] = None
 number (b ∷ bs) = number_behind 0 (b ∷ bs)
@@ -48,13 +49,16 @@ abbrev pub number_if : Option (List ℕ) → Option (Option ℕ)
 number_if None = Some None
 number_if (Some value) = elim (number value) [ None ↦ None | Some n ↦ Some (Some n) ]
 
+-- the element of a text and two attributes, where each is a number or not there
 abbrev pub element_with : List ℕ → Option (Option ℕ) → Option (Option ℕ) → Option Td
 element_with text (Some colspan) (Some rowspan) = Some (record { colspan = colspan; rowspan = rowspan; text = text })
 element_with text _ _ = None
 
+-- the td element of a tag with these attributes and of a text
 abbrev pub element : List Attribute → List ℕ → Option Td
 element attributes text = element_with text (number_if (value_of (codes "colspan") attributes)) (number_if (value_of (codes "rowspan") attributes))
 
+-- the end tag of a cell puts its element into the row
 abbrev pub end_cell : Built → Option Td → Option Built
 end_cell b None = None
 end_cell b (Some td) = Some (record b { mode = InRow; tds = b.tds ++ (td ∷ []); attributes = []; text = [] })
@@ -77,11 +81,13 @@ at_character b InCell c = if c == 0 then Some b else Some (record b { text = b.t
 at_character b InBody c = None
 at_character b _ c = if is_blank c then Some b else None
 
+-- what a token does
 abbrev pub built_after : Option Built → Token → Option Built
 built_after None t = None
 built_after (Some b) (Character c) = at_character b b.mode c
 built_after (Some b) (Marked t) = at_tag b b.mode t
 
+-- nothing is built yet
 abbrev pub nothing_built : Built
 nothing_built = record { mode = InBody; trs = []; tds = []; attributes = []; text = [] }
 
@@ -109,6 +115,7 @@ text_in [] = Some []
 text_in (Marked t ∷ ts) = None
 text_in (Character c ∷ ts) = option_map (λ bs. if c == 0 then bs else c ∷ bs) (text_in ts)
 
+-- the text of tokens, where there are some
 abbrev pub text_of : Option (List Token) → Option (List ℕ)
 text_of None = None
 text_of (Some ts) = text_in ts

@@ -9,11 +9,14 @@ abbrev pub attribute : List ℕ → Option ℕ → List ℕ
 attribute name None = []
 attribute name (Some n) = name ++ (decimal n ++ (34 ∷ []))
 
+-- the bytes of a td element
 abbrev pub td_bytes : Td → List ℕ
 td_bytes t = codes "<td" ++ (attribute (codes " colspan=\"") t.colspan ++ (attribute (codes " rowspan=\"") t.rowspan ++ (62 ∷ (escaped t.text ++ codes "</td>"))))
 
+-- the bytes of a tr element
 abbrev pub tr_bytes : List Td → List ℕ
 tr_bytes tds = codes "<tr>" ++ (flat_map td_bytes tds ++ codes "</tr>\n")
 
+-- the bytes of a table
 abbrev pub table_bytes : List (List Td) → List ℕ
 table_bytes trs = codes "<table>\n" ++ (flat_map tr_bytes trs ++ codes "</table>\n")

@@ -7,9 +7,11 @@ use Rattle.tabled_html_reading.specs.Forming.{Cell, Forming, Td, cells_at, formi
 abbrev pub spanned : ℕ → Option ℕ → Option ℕ → Td
 spanned name colspan rowspan = record { colspan = colspan; rowspan = rowspan; text = name ∷ [] }
 
+-- an element without attributes
 abbrev pub plain : ℕ → Td
 plain name = spanned name None None
 
+-- a cell, anchored at a slot
 abbrev pub cell : ℕ → ℕ → Td → Cell
 cell x y element = record { x = x; y = y; element = element }
 
@@ -17,6 +19,7 @@ cell x y element = record { x = x; y = y; element = element }
 abbrev pub overlapping : List (List Td)
 overlapping = (plain 1 ∷ spanned 2 None (Some 2) ∷ []) ∷ (spanned 3 (Some 2) None ∷ []) ∷ []
 
+-- there is an error, and the slot has both cells
 pub record Overlaps (f : Forming) : Type 0 where
   pub error : f.overlaps ≡ true
   pub both : cells_at f.covered 1 1 ≡ cell 1 0 (spanned 2 None (Some 2)) ∷ cell 0 1 (spanned 3 (Some 2) None) ∷ []
@@ -25,6 +28,7 @@ pub record Overlaps (f : Forming) : Type 0 where
 abbrev pub past : List (List Td)
 past = (plain 1 ∷ spanned 2 None (Some 3) ∷ []) ∷ []
 
+-- the table has three rows, and cells in two columns of the first alone: in the others no cell is anchored
 pub record GoesPast (f : Forming) : Type 0 where
   pub rows : f.ywidth ≡ 3
   pub none : cells_at f.covered 0 1 ≡ []
@@ -34,6 +38,7 @@ pub record GoesPast (f : Forming) : Type 0 where
 abbrev pub growing : List (List Td)
 growing = (spanned 1 None (Some 0) ∷ plain 2 ∷ []) ∷ (plain 3 ∷ []) ∷ (spanned 4 (Some 2000) None ∷ []) ∷ []
 
+-- the cell of rowspan 0 is in each row, and the other one takes a thousand columns
 pub record Grows (f : Forming) : Type 0 where
   pub rows : f.ywidth ≡ 3
   pub columns : f.xwidth ≡ 1001
@@ -45,18 +50,21 @@ pub record Grows (f : Forming) : Type 0 where
 abbrev pub alone : List (List Td)
 alone = (spanned 1 (Some 2) (Some 2) ∷ []) ∷ [] ∷ []
 
+-- the table has its one cell, and a row and a column in which no cell is anchored
 pub record IsAlone (f : Forming) : Type 0 where
   pub rows : f.ywidth ≡ 2
   pub columns : f.xwidth ≡ 2
   pub apart : f.overlaps ≡ false
   pub error : lacks_anchors f ≡ true
 
+-- the tables that are formed of these elements
 pub record AreFormed : Type 0 where
   pub overlaps : Overlaps (forming_a_table overlapping)
   pub past : GoesPast (forming_a_table past)
   pub grows : Grows (forming_a_table growing)
   pub alone : IsAlone (forming_a_table alone)
 
+-- what some bytes are read as
 pub record AreRead : Type 0 where
   pub newlines : read_text (codes "a\r\nb\rc\nd") ≡ Some (codes "a\nb\nc\nd")
   pub controls : read_text (codes "&#13;&#x80;&#159;&#0;&#xD800;&#1114112;") ≡ Some (13 ∷ (encode_utf8 8364 ++ encode_utf8 376 ++ encode_utf8 65533 ++ encode_utf8 65533 ++ encode_utf8 65533))
