@@ -74,7 +74,7 @@ sound_line lines line fine = sound_words line (is_in_place lines line) fine
     sound_words (FaultyLine fault) b e = refused fault b e
 
 -- what no fault of several lines says of the first one and of the others
-parts_none : (fault_at : List Line → Line → Option Fault) (earlier : List Line) (line : Line) (lines : List Line) → first_fault fault_at earlier (line ∷ lines) ≡ None → (fault_at earlier line ≡ None) × (first_fault fault_at (earlier ++ line ∷ []) lines ≡ None)
+pub parts_none : (fault_at : List Line → Line → Option Fault) (earlier : List Line) (line : Line) (lines : List Line) → first_fault fault_at earlier (line ∷ lines) ≡ None → (fault_at earlier line ≡ None) × (first_fault fault_at (earlier ++ line ∷ []) lines ≡ None)
 parts_none fault_at earlier line lines none = none_here (fault_at earlier line) refl
   where
     none_here : (o : Option Fault) → fault_at earlier line ≡ o → (fault_at earlier line ≡ None) × (first_fault fault_at (earlier ++ line ∷ []) lines ≡ None)

@@ -1,9 +1,10 @@
 -- A draft line by line, and what it says at the end.
-use Rattle.tabled_language.proofs.Common.{Draft, Err, Fault, IsFirstMisfit, Line, List, None, Ok, Option, Rectangle, Shape, Some, SpanMisfits, State, [], anchor_in, anchor_line, anchor_lines, ap, append-nil, append_assoc, arith, draft_of, fault_of, filter_map-append, first_fault, get_or, length, all_fit, option_map, option_or, record_in, refl, script_or_fault, shape_among, shape_at, shape_in, shape_misfit, from_rectangles, step_in, sym, table_from, true, with_line, ℕ, ◌++◌, ◌+◌, ◌∙◌, ◌∷◌, ◌≡◌}
+use Rattle.tabled_language.proofs.Common.{Draft, Err, Fault, IsFirstMisfit, Line, List, None, Ok, Option, Rectangle, Shape, Some, SpanMisfits, State, [], anchor_in, ap, append-nil, append_assoc, arith, draft_of, fault_of, filter_map-append, first_fault, get_or, length, all_fit, number_if, numbers_of, option_map, option_or, record_in, refl, script_or_fault, shape_among, shape_at, shape_in, shape_misfit, from_rectangles, step_in, sym, table_from, true, with_line, ℕ, ◌++◌, ◌+◌, ◌∙◌, ◌∷◌, ◌≡◌}
 use Rattle.tabled_language.proofs.DraftLines.{shape_told}
 use Rattle.tabled_language.proofs.Misfits.{first_misfit_line, no_misfit}
 
-or_assoc : {A : Type 0} (x y z : Option A) → option_or x (option_or y z) ≡ option_or (option_or x y) z
+-- of three values the first there is, in either order of the choices
+pub or_assoc : {A : Type 0} (x y z : Option A) → option_or x (option_or y z) ≡ option_or (option_or x y) z
 or_assoc None y z = refl
 or_assoc (Some x) y z = refl
 
@@ -19,23 +20,25 @@ shape-push n m (first ∷ lines) line is =
     ap (option_or (option_map (shape_at (n + 1)) (shape_in first))) (shape-push (n + 1) m lines line (omega (arith, is)))
     ∙ or_assoc (option_map (shape_at (n + 1)) (shape_in first)) (shape_among (n + 1) lines) (option_map (shape_at (m + 1)) (shape_in line))
 
-lines-push : (n m : ℕ) (lines : List Line) (line : Line) → m ≡ n + length lines → anchor_lines n (lines ++ line ∷ []) ≡ anchor_lines n lines ++ anchor_line (m + 1) line
-lines-push n m [] line is =
+numbers-push : {A : Type 0} (said : Line → Option A) (n m : ℕ) (lines : List Line) (line : Line) → m ≡ n + length lines → numbers_of said n (lines ++ line ∷ []) ≡ numbers_of said n lines ++ number_if said (m + 1) line
+numbers-push said n m [] line is =
     let same : n ≡ m = omega (arith, is) in
-    append-nil (anchor_line (n + 1) line) ∙ ap (λ k. anchor_line (k + 1) line) same
-lines-push n m (first ∷ lines) line is =
-    ap (λ (ns : List ℕ). anchor_line (n + 1) first ++ ns) (lines-push (n + 1) m lines line (omega (arith, is)))
-    ∙ sym (append_assoc (anchor_line (n + 1) first) (anchor_lines (n + 1) lines) (anchor_line (m + 1) line))
+    append-nil (number_if said (n + 1) line) ∙ ap (λ k. number_if said (k + 1) line) same
+numbers-push said n m (first ∷ lines) line is =
+    ap (λ (ns : List ℕ). number_if said (n + 1) first ++ ns) (numbers-push said (n + 1) m lines line (omega (arith, is)))
+    ∙ sym (append_assoc (number_if said (n + 1) first) (numbers_of said (n + 1) lines) (number_if said (m + 1) line))
 
 -- the draft of one line more
 pub draft_of-push : (lines : List Line) (line : Line) → draft_of (lines ++ line ∷ []) ≡ with_line (draft_of lines) (length lines + 1) line
-draft_of-push lines line = same (shape-push 0 (length lines) lines line (omega arith)) (filter_map-append record_in lines (line ∷ [])) (filter_map-append anchor_in lines (line ∷ [])) (lines-push 0 (length lines) lines line (omega arith)) (filter_map-append step_in lines (line ∷ []))
+draft_of-push lines line =
+    let last : length lines ≡ 0 + length lines = omega arith in
+    same (shape-push 0 (length lines) lines line last) (filter_map-append record_in lines (line ∷ [])) (filter_map-append anchor_in lines (line ∷ [])) (numbers-push anchor_in 0 (length lines) lines line last) (filter_map-append step_in lines (line ∷ [])) (numbers-push step_in 0 (length lines) lines line last)
   where
-    made : Option Shape → List (List (List ℕ)) → List Rectangle → List ℕ → List (State → State) → Draft
-    made s r a l f = record { shape = s; records = r; anchors = a; lines = l; steps = f }
+    made : Option Shape → List (List (List ℕ)) → List Rectangle → List ℕ → List (State → State) → List ℕ → Draft
+    made s r a l f k = record { shape = s; records = r; anchors = a; lines = l; steps = f; step_lines = k }
 
-    same : {s t : Option Shape} {r q : List (List (List ℕ))} {a b : List Rectangle} {l k : List ℕ} {f g : List (State → State)} → s ≡ t → r ≡ q → a ≡ b → l ≡ k → f ≡ g → made s r a l f ≡ made t q b k g
-    same u v w x y = rw (u, v, w, x, y) refl
+    same : {s t : Option Shape} {r q : List (List (List ℕ))} {a b : List Rectangle} {l k : List ℕ} {f g : List (State → State)} {i j : List ℕ} → s ≡ t → r ≡ q → a ≡ b → l ≡ k → f ≡ g → i ≡ j → made s r a l f i ≡ made t q b k g j
+    same u v w x y z = rw (u, v, w, x, y, z) refl
 
 -- without a fault in a line by itself, the checks of the whole are those of the draft
 

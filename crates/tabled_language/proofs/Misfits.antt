@@ -1,5 +1,5 @@
 -- The first faulty span among lines is the first misfit among their anchors.
-use Rattle.tabled_language.proofs.Common.{[], ◌&&◌, ◌++◌, ◌+◌, ◌<◌, ◌∙◌, ◌∷◌, ◌≡◌, Bool, Grid, IsFirstMisfit, Line, List, None, Option, Rectangle, Some, SpanMisfits, anchor_in, anchor_lines, and_parts, ap, append-nil, append_assoc, arith, false, filter_map, filter_map-append, first_fault, get_or, fits_among, length, length-append, all_fit, refl, span_fault, subst, suc, sym, take, true, zero, ℕ}
+use Rattle.tabled_language.proofs.Common.{[], ◌&&◌, ◌++◌, ◌+◌, ◌<◌, ◌∙◌, ◌∷◌, ◌≡◌, Bool, Grid, IsFirstMisfit, Line, List, None, Option, Rectangle, Some, SpanMisfits, anchor_in, and_parts, ap, append-nil, append_assoc, arith, false, filter_map, filter_map-append, first_fault, get_or, fits_among, length, length-append, all_fit, numbers_of, refl, span_fault, subst, suc, sym, take, true, zero, ℕ}
 use Rattle.std.proofs.Math.Numerals.{add-one}
 use Rattle.tabled_language.proofs.PlacedAnchors.{fit-left, fit-push}
 
@@ -55,7 +55,7 @@ module _ (g : Grid (List ℕ)) where
     before : well (done ++ take i es) ≡ true
     there : well (done ++ take (suc i) es) ≡ false
 
-  misfit_behind : (earlier lines : List Line) (i : ℕ) → Misfit (anchors earlier) (anchors lines) i → first_fault (span_fault g) earlier lines ≡ Some (get_or (anchor_lines (length earlier) lines) i 0, SpanMisfits)
+  misfit_behind : (earlier lines : List Line) (i : ℕ) → Misfit (anchors earlier) (anchors lines) i → first_fault (span_fault g) earlier lines ≡ Some (get_or (numbers_of anchor_in (length earlier) lines) i 0, SpanMisfits)
   misfit_behind earlier [] i m = absurd (omega (arith, m.within))
   misfit_behind earlier (line ∷ lines) i m = misfit_from_here (anchor_in line) refl i m (misfit_behind (earlier ++ line ∷ []) lines)
     where
@@ -63,22 +63,22 @@ module _ (g : Grid (List ℕ)) where
       longer = length-append earlier (line ∷ [])
 
       misfit_from_here : (o : Option Rectangle) → anchor_in line ≡ o → (i : ℕ) → Misfit (anchors earlier) (anchors (line ∷ lines)) i
-          → ((j : ℕ) → Misfit (anchors (earlier ++ line ∷ [])) (anchors lines) j → first_fault (span_fault g) (earlier ++ line ∷ []) lines ≡ Some (get_or (anchor_lines (length (earlier ++ line ∷ [])) lines) j 0, SpanMisfits))
-          → first_fault (span_fault g) earlier (line ∷ lines) ≡ Some (get_or (anchor_lines (length earlier) (line ∷ lines)) i 0, SpanMisfits)
+          → ((j : ℕ) → Misfit (anchors (earlier ++ line ∷ [])) (anchors lines) j → first_fault (span_fault g) (earlier ++ line ∷ []) lines ≡ Some (get_or (numbers_of anchor_in (length (earlier ++ line ∷ [])) lines) j 0, SpanMisfits))
+          → first_fault (span_fault g) earlier (line ∷ lines) ≡ Some (get_or (numbers_of anchor_in (length earlier) (line ∷ lines)) i 0, SpanMisfits)
       misfit_from_here None is i m later =
           let here : anchors (line ∷ lines) ≡ anchors lines = rw is refl in
           let more : anchors (earlier ++ line ∷ []) ≡ anchors earlier = filter_map-append anchor_in earlier (line ∷ []) ∙ rw is (append-nil (anchors earlier)) in
-          let numbers : anchor_lines (length earlier) (line ∷ lines) ≡ anchor_lines (length (earlier ++ line ∷ [])) lines = rw (is, longer) refl in
+          let numbers : numbers_of anchor_in (length earlier) (line ∷ lines) ≡ numbers_of anchor_in (length (earlier ++ line ∷ [])) lines = rw (is, longer) refl in
           passed earlier line lines is ∙ later i (subst (λ done. Misfit done (anchors lines) i) (sym more) (subst (λ es. Misfit (anchors earlier) es i) here m))
           ∙ ap (λ (ns : List ℕ). Some (get_or ns i 0, SpanMisfits)) (sym numbers)
       misfit_from_here (Some e) is i m later =
           let here : anchors (line ∷ lines) ≡ e ∷ anchors lines = rw is refl in
           let more : anchors (earlier ++ line ∷ []) ≡ anchors earlier ++ e ∷ [] = filter_map-append anchor_in earlier (line ∷ []) ∙ rw is refl in
-          let numbers : anchor_lines (length earlier) (line ∷ lines) ≡ (length earlier + 1) ∷ anchor_lines (length (earlier ++ line ∷ [])) lines = rw (is, longer) refl in
+          let numbers : numbers_of anchor_in (length earlier) (line ∷ lines) ≡ (length earlier + 1) ∷ numbers_of anchor_in (length (earlier ++ line ∷ [])) lines = rw (is, longer) refl in
           at i (subst (λ es. Misfit (anchors earlier) es i) here m) more
           ∙ ap (λ (ns : List ℕ). Some (get_or ns i 0, SpanMisfits)) (sym numbers)
         where
-          at : (i : ℕ) → Misfit (anchors earlier) (e ∷ anchors lines) i → anchors (earlier ++ line ∷ []) ≡ anchors earlier ++ e ∷ [] → first_fault (span_fault g) earlier (line ∷ lines) ≡ Some (get_or ((length earlier + 1) ∷ anchor_lines (length (earlier ++ line ∷ [])) lines) i 0, SpanMisfits)
+          at : (i : ℕ) → Misfit (anchors earlier) (e ∷ anchors lines) i → anchors (earlier ++ line ∷ []) ≡ anchors earlier ++ e ∷ [] → first_fault (span_fault g) earlier (line ∷ lines) ≡ Some (get_or ((length earlier + 1) ∷ numbers_of anchor_in (length (earlier ++ line ∷ [])) lines) i 0, SpanMisfits)
           at zero m more = misfits earlier line lines e is (no_place (anchors earlier) e (ap well (sym (append-nil (anchors earlier))) ∙ m.before) m.there)
           at (suc j) m more =
               let rest : (n : ℕ) → anchors (earlier ++ line ∷ []) ++ take n (anchors lines) ≡ anchors earlier ++ e ∷ take n (anchors lines) = λ n. ap (λ (es : List Rectangle). es ++ take n (anchors lines)) more ∙ append_assoc (anchors earlier) (e ∷ []) (take n (anchors lines)) in
@@ -86,5 +86,5 @@ module _ (g : Grid (List ℕ)) where
               ∙ later j (record { within = omega (arith, m.within); before = ap well (rest j) ∙ m.before; there = ap well (rest (suc j)) ∙ m.there })
 
   -- the first faulty span stands on the line of the first misfit
-  pub first_misfit_line : (lines : List Line) (i : ℕ) → IsFirstMisfit g.rows g.columns (anchors lines) i → first_fault (span_fault g) [] lines ≡ Some (get_or (anchor_lines 0 lines) i 0, SpanMisfits)
+  pub first_misfit_line : (lines : List Line) (i : ℕ) → IsFirstMisfit g.rows g.columns (anchors lines) i → first_fault (span_fault g) [] lines ≡ Some (get_or (numbers_of anchor_in 0 lines) i 0, SpanMisfits)
   first_misfit_line lines i m = misfit_behind [] lines i (record { within = m.within; before = m.before; there = ap (λ n. well (take n (anchors lines))) (sym (add-one i)) ∙ m.there })

@@ -1,9 +1,11 @@
 -- The checks of a whole draft.
-use Rattle.tabled_language.proofs.Common.{[], ◌++◌, ◌+◌, ◌<◌, ◌∙◌, ◌∷◌, ◌≡◌, Draft, DraftMeans, EndsDraft, EndsMerge, EndsScript, Err, Fault, Grid, IfOk, IsFirstMisfit, Line, List, None, Ok, Option, ParseError, ReadsScript, Result, Script, Shape, ShapeDiffers, Some, SpanMap, SpanMisfits, Vec, ap, ap₂, draft_of, fault_of, first_fault, all_fit, from_rectangles, get_or, length, length-map, lines_of, longest, longest-push, map, map-append, map_items, max, option_map, parse, refl, says_line, script_or_fault, shape_misfit, subst, sym, table_from, take, take_more, true, ℕ}
-use Rattle.std.specs.Prelude.{IfErr, MatchResult}
-use Rattle.tabled_language.specs.Parsing.{IsScript, script_in}
+use Rattle.tabled_language.proofs.Common.{[], ◌++◌, ◌+◌, ◌<◌, ◌∙◌, ◌∷◌, ◌≡◌, Draft, DraftMeans, EndsDraft, EndsBetween, EndsMerge, EndsScript, Err, Fault, Grid, IfOk, IsFirstMisfit, Line, List, None, Ok, Option, ParseError, Result, Script, Shape, ShapeDiffers, Some, SpanMap, SpanMisfits, Vec, ap, ap₂, arith, asks_between, draft_of, fault_of, first_fault, all_fit, from_rectangles, get_or, inl, inr, length, length-map, lines_between, lines_of, longest, longest-push, map, map-append, map_items, max, numbers_of, option_map, parse, parse_between, refl, says_line, script_or_fault, shape_misfit, step_in, subst, sym, table_from, take, take_more, true, ℕ}
+use Rattle.std.specs.Prelude.{IfErr}
+use Rattle.tabled_language.specs.Parsing.{BecomesScript, HasStepLines, IsScript, script_in}
 use Rattle.tabled_language.specs.declared.fault.ParseError.TheVariants as parse_error
 use Rattle.tabled_language.specs.declared.script.Script.{Script as Scripted}
+use Rattle.tabled_language.proofs.BetweenLines.{ReadsBetween}
+use Rattle.tabled_language.proofs.EndedLines.{asks_between-alone, parse_between-alone, step_lines-alone}
 use Rattle.tabled_language.proofs.DraftSteps.{all_fits, shape_differs, span_misfits}
 
 pub longest-map : {A B : Type 0} (f : A → B) (rows : List (List A)) → longest (map (map f) rows) ≡ longest rows
@@ -61,19 +63,36 @@ draft_ends d rows columns shape said told none (parse_error.Faulty line fault) (
 draft_ends d rows columns shape said told none parse_error.OutOfMemory some = some
 
 -- a script that was read means what its draft does
-pub read_means : {input : List ℕ} {d : Draft} {meant : Result Script (ℕ × Fault)} → ReadsScript input d → DraftMeans d meant → parse input ≡ meant
-read_means {input} read means = means (map says_line (lines_of input)) read.faultless read.is
+read_means : {rows : List (List (List ℕ))} {input : List ℕ} {words : List (List (List ℕ))} {d : Draft} {meant : Result Script (ℕ × Fault)} → ReadsBetween rows input words d → DraftMeans d meant → parse_between rows input words ≡ meant
+read_means {rows} {input} {words} read means = means (lines_between rows input words) read.faultless read.is
 
 -- what its draft becomes answers it
-pub answers_script : {input : List ℕ} {d : Draft} (r : Result Scripted ParseError) → ReadsScript input d → MatchResult r (λ s. DraftMeans d (Ok (script_in s.records.items s.spans s.steps.items))) (EndsDraft d) → IfOk r (IsScript (parse input))
-answers_script (Ok s) read means = read_means read means
+pub answers_script : {rows : List (List (List ℕ))} {input : List ℕ} {words : List (List (List ℕ))} {d : Draft} (r : Result Scripted ParseError) → ReadsBetween rows input words d → BecomesScript d r → IfOk r (IsScript (parse_between rows input words))
+answers_script (Ok s) read becomes = read_means read becomes.0
 answers_script (Err error) read ended = tt
 
+pub answers_step_lines : {rows : List (List (List ℕ))} {input : List ℕ} {words : List (List (List ℕ))} {d : Draft} (r : Result Scripted ParseError) → ReadsBetween rows input words d → BecomesScript d r → IfOk r (HasStepLines (lines_between rows input words))
+answers_step_lines (Ok s) read becomes = becomes.1 ∙ ap (λ (e : Draft). e.step_lines) read.is
+answers_step_lines (Err error) read ended = tt
+
 -- so does why it becomes none
-pub answers_end : {input : List ℕ} {d : Draft} (r : Result Scripted ParseError) → ReadsScript input d → MatchResult r (λ s. DraftMeans d (Ok (script_in s.records.items s.spans s.steps.items))) (EndsDraft d) → IfErr r (EndsScript input)
-answers_end (Ok s) read means = tt
+pub answers_end : {rows : List (List (List ℕ))} {input : List ℕ} {words : List (List (List ℕ))} {d : Draft} (r : Result Scripted ParseError) → ReadsBetween rows input words d → BecomesScript d r → IfErr r (EndsBetween rows input words)
+answers_end (Ok s) read becomes = tt
 answers_end (Err (parse_error.Faulty line fault)) read ended = read_means read ended
-answers_end (Err parse_error.OutOfMemory) read some = read.asks some
+answers_end (Err parse_error.OutOfMemory) read some = inl (read.asks some)
+
+-- without rows and words, what answers a script between them answers bytes
+pub alone-script : (r : Result Scripted ParseError) (rows words : List (List (List ℕ))) (input : List ℕ) → rows ≡ [] → words ≡ [] → IfOk r (IsScript (parse_between rows input words)) → IfOk r (IsScript (parse input))
+alone-script r rows words input no_rows no_words told = subst (λ (meant : Result Script (ℕ × Fault)). IfOk r (IsScript meant)) (ap₂ (λ (rs ws : List (List (List ℕ))). parse_between rs input ws) no_rows no_words ∙ parse_between-alone input) told
+
+pub alone-step_lines : (r : Result Scripted ParseError) (rows words : List (List (List ℕ))) (input : List ℕ) → rows ≡ [] → words ≡ [] → IfOk r (HasStepLines (lines_between rows input words)) → IfOk r (HasStepLines (map says_line (lines_of input)))
+alone-step_lines r rows words input no_rows no_words told = subst (λ (ns : List ℕ). IfOk r (λ (s : Scripted). s.step_lines.items ≡ ns)) (ap₂ (λ (rs ws : List (List (List ℕ))). numbers_of step_in 0 (lines_between rs input ws)) no_rows no_words ∙ step_lines-alone input) told
+
+pub alone-end : (r : Result Scripted ParseError) (rows words : List (List (List ℕ))) (input : List ℕ) → rows ≡ [] → words ≡ [] → IfErr r (EndsBetween rows input words) → IfErr r (EndsScript input)
+alone-end (Ok s) rows words input no_rows no_words told = tt
+alone-end (Err (parse_error.Faulty line fault)) rows words input no_rows no_words told = sym (ap₂ (λ (rs ws : List (List (List ℕ))). parse_between rs input ws) no_rows no_words ∙ parse_between-alone input) ∙ told
+alone-end (Err parse_error.OutOfMemory) rows words input no_rows no_words (inl asks) = asks_between-alone input (sym (ap₂ (λ (rs ws : List (List (List ℕ))). asks_between rs input ws) no_rows no_words) ∙ asks)
+alone-end (Err parse_error.OutOfMemory) rows words input no_rows no_words (inr many) = absurd (omega (arith, many, ap length no_rows, ap length no_words))
 
 -- one record more
 pub longest-more : {A : Type 0} (rows : List (Vec A)) (i old new : ℕ) (row : Vec A) → i < length rows → row ≡ get_or rows i row → old ≡ longest (map_items (take i rows)) → new ≡ max old (length row.items) → new ≡ longest (map_items (take (i + 1) rows))

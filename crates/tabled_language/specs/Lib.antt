@@ -4,6 +4,7 @@ pub mod Faults
 pub mod Lent
 pub mod Line
 pub mod Memory
+pub mod Origins
 pub mod Output
 pub mod Parsing
 pub mod Parts

@@ -1,5 +1,5 @@
 -- What the code's values say of a script (`script_in`), and how it goes through one, step by step. Nothing of it belongs to the language.
-use Rattle.std.specs.Prelude.{◌≡◌, ◌<◌, ℕ, Bool, true, false, List, [], length, Option, None, Some, Result, Ok, Err, MatchResult, String, map}
+use Rattle.std.specs.Prelude.{◌≡◌, ◌<◌, ◌≤◌, ◌⊎◌, ◌+◌, ◌^◌, ℕ, Bool, true, false, List, [], length, Option, None, Some, Result, Ok, Err, MatchResult, String, map}
 use Rattle.std.specs.Global.{Global, Vec}
 use Rattle.std.specs.Slice.Iter.{iter_rest}
 use Rattle.std.specs.String.{string_bytes}
@@ -18,12 +18,12 @@ use Rattle.tabled_language.specs.declared.lent.LentText.{LentText}
 use Rattle.tabled_language.specs.declared.script.Script.{Script as Scripted}
 use Rattle.tabled_language.specs.declared.words.WordSource.{WordSource}
 use Rattle.tabled_language.specs.declared.words.WordSource.TheVariants.{Line as InLine, Texts}
-use Rattle.tabled_language.specs.Drafts.{Draft, draft_of, fault_behind, takes, with_line}
+use Rattle.tabled_language.specs.Drafts.{Draft, asks_behind, draft_of, fault_behind, first_behind, takes, with_line, with_lines}
 use Rattle.tabled_language.specs.Lent.{bytes_of, texts_in_records}
 use Rattle.tabled_language.specs.Faults.{fault_of, first_fault}
-use Rattle.tabled_language.specs.Line.{says_line, lines_of, meaning_of}
-use Rattle.tabled_language.specs.Memory.{asks_memory, verb_asks, words_ask}
-use Rattle.tabled_language.specs.Script.{Script, parse, script_or_fault}
+use Rattle.tabled_language.specs.Line.{meaning_of, numbers_of, step_in}
+use Rattle.tabled_language.specs.Memory.{GivenLine, asks_between, asks_memory, says_given, verb_asks, words_ask}
+use Rattle.tabled_language.specs.Script.{Script, parse, parse_between, script_or_fault}
 use Rattle.tabled_language.specs.Verb.{Line, says_verb}
 use Rattle.tabled_language.specs.Words.{Reading}
 
@@ -51,7 +51,7 @@ TakesWords view taken left result new = MatchResult result (λ x. (view x ≡ ta
 
 -- the draft of what is in memory
 abbrev pub draft_in : Drafted → Draft
-draft_in d = record { shape = d.shape; records = texts_in_records d.records.items; anchors = d.spans.anchors; lines = d.spans.numbers; steps = map after d.steps.items }
+draft_in d = record { shape = d.shape; records = texts_in_records d.records.items; anchors = d.spans.anchors; lines = d.spans.numbers; steps = map after d.steps.items; step_lines = d.step_lines.items }
 
 -- the script of what is in memory
 abbrev pub script_in : List (Vec LentText) → SpanMap → List Step → Script
@@ -66,6 +66,15 @@ abbrev pub EndsScript : List ℕ → ParseError → Type 0
 EndsScript input (parse_error.Faulty line fault) = parse input ≡ Err (line, fault)
 EndsScript input parse_error.OutOfMemory = asks_memory input ≡ true
 
+-- why rows, bytes and words aren't read as a script: so it is, or there are more rows and words than any memory holds
+abbrev pub EndsBetween : List (List (List ℕ)) → List ℕ → List (List (List ℕ)) → ParseError → Type 0
+EndsBetween rows input words (parse_error.Faulty line fault) = parse_between rows input words ≡ Err (line, fault)
+EndsBetween rows input words parse_error.OutOfMemory = (asks_between rows input words ≡ true) ⊎ (2 ^ 63 ≤ length rows + length words)
+
+-- the numbers that a script in memory keeps are those of the lines that say its steps
+abbrev pub HasStepLines : List Line → Scripted → Type 0
+HasStepLines lines s = s.step_lines.items ≡ numbers_of step_in 0 lines
+
 -- the lines of a draft, none of which is faulty by itself, mean this
 abbrev pub DraftMeans : Draft → Result Script (ℕ × Fault) → Type 0
 DraftMeans d meant = (lines : List Line) → first_fault fault_of [] lines ≡ None → d ≡ draft_of lines → script_or_fault lines ≡ meant
@@ -77,7 +86,7 @@ EndsDraft d parse_error.OutOfMemory = 0 < length d.anchors
 
 -- a draft becomes the script that its lines mean, or why it becomes none
 abbrev pub BecomesScript : Draft → Result Scripted ParseError → Type 0
-BecomesScript d result = MatchResult result (λ s. DraftMeans d (Ok (script_in s.records.items s.spans s.steps.items))) (EndsDraft d)
+BecomesScript d result = MatchResult result (λ s. DraftMeans d (Ok (script_in s.records.items s.spans s.steps.items)) × (s.step_lines.items ≡ d.step_lines)) (EndsDraft d)
 
 -- why a line isn't read: its fault, or memory where it asks for some
 abbrev pub LineEnds : Option Fault → Bool → LineError → Type 0
@@ -100,11 +109,20 @@ ReadsVerb old n verb words result new = ReadsLine old n (says_verb verb words) (
 abbrev pub IsPlaced : {X : Type 0} → Draft → Line → Result X LineError → Type 0
 IsPlaced d line result = MatchResult result (λ _. takes d line ≡ true) (λ error. (error ≡ Faulty OutOfPlace) × (takes d line ≡ false))
 
--- all lines of a script are read into a draft, and none is faulty by itself
-pub record ReadsScript (input : List ℕ) (draft : Draft) : Type 0 where
-  pub faultless : first_fault fault_of [] (map says_line (lines_of input)) ≡ None
-  pub is : draft ≡ draft_of (map says_line (lines_of input))
-  pub asks : 0 < length draft.anchors → asks_memory input ≡ true
+-- lines after n were read into a draft without a fault, with the number of the last
+pub record HasGiven (old : Draft) (n : ℕ) (lines : List GivenLine) (read : Drafted × ℕ) : Type 0 where
+  pub faultless : first_behind old n (map says_given lines) ≡ None
+  pub is : draft_in read.0 ≡ with_lines old n (map says_given lines)
+  pub counted : read.1 ≡ n + length lines
+
+-- why lines after n aren't read
+abbrev pub EndsGiven : Draft → ℕ → List GivenLine → ParseError → Type 0
+EndsGiven old n lines (parse_error.Faulty line fault) = first_behind old n (map says_given lines) ≡ Some (line, fault)
+EndsGiven old n lines parse_error.OutOfMemory = asks_behind old n lines ≡ true
+
+-- lines after n read into a draft, with the number of the last, or why they aren't
+abbrev pub ReadsGiven : Draft → ℕ → List GivenLine → Result (Drafted × ℕ) ParseError → Type 0
+ReadsGiven old n lines result = MatchResult result (HasGiven old n lines) (EndsGiven old n lines)
 
 -- why a script isn't read, by why one of its lines isn't, and the number of that line
 abbrev pub in_line : ℕ → LineError → ParseError

@@ -1,10 +1,10 @@
 -- A script: its records, its merged cells and its steps, and which one bytes write.
-use Rattle.std.specs.Prelude.{ℕ, List, map, Result, filter_map}
+use Rattle.std.specs.Prelude.{ℕ, List, ◌++◌, map, Result, filter_map}
 use Rattle.tabled_grid.specs.Spans.{SpanMap, from_rectangles}
 use Rattle.tabled_language.specs.declared.fault.Fault.{Fault}
-use Rattle.tabled_language.specs.Verb.{Line}
+use Rattle.tabled_language.specs.Verb.{Line, RecordLine}
 use Rattle.tabled_steps.specs.States.{State}
-use Rattle.tabled_language.specs.Line.{anchor_in, says_line, lines_of, record_in, step_in, table_from}
+use Rattle.tabled_language.specs.Line.{anchor_in, ended_lines, lines_of, record_in, says_line, says_words, step_in, table_from}
 use Rattle.tabled_language.specs.Faults.{fault_among, if_faultless}
 
 -- the records, the merged cells and the steps of a script
@@ -28,3 +28,11 @@ script_or_fault lines = if_faultless (script_of lines) (fault_among lines)
 -- the script that bytes write, or the number of its first faulty line and the fault
 abbrev pub parse : List ℕ → Result Script (ℕ × Fault)
 parse input = script_or_fault (map says_line (lines_of input))
+
+-- the lines of a script between rows and words: a record for each row, the lines of bytes, and a line for each list of words
+abbrev pub lines_between : List (List (List ℕ)) → List ℕ → List (List (List ℕ)) → List Line
+lines_between rows input words = map RecordLine rows ++ (map says_line (ended_lines input) ++ map says_words words)
+
+-- the script of rows, bytes and words, or the number of its first faulty line and the fault
+abbrev pub parse_between : List (List (List ℕ)) → List ℕ → List (List (List ℕ)) → Result Script (ℕ × Fault)
+parse_between rows input words = script_or_fault (lines_between rows input words)

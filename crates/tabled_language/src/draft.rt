@@ -11,7 +11,7 @@ use crate::padding::longest;
 use crate::script::Script;
 use crate::spans::SpanLines;
 use crate::text_parts::Fields;
-use crate::texts::{escaped_texts, lent_texts, plain};
+use crate::texts::{escaped_texts, lent_texts, make_empty_line, plain};
 use crate::words::{Read, Words};
 use std::alloc::Global;
 use tabled_grid::records::CellText;
@@ -33,30 +33,31 @@ pub(crate) struct Draft<'a> {
     records: Vec<Vec<LentText<'a>>>,
     spans: SpanLines,
     steps: Vec<Step>,
+    /// The numbers of the lines of steps. One more where memory for a step was refused.
+    step_lines: Vec<usize>,
 }
 
 impl<'a> Draft<'a> {
-    ghost use Rattle.std.specs.Prelude.{◌≡◌, false, true, [], ℕ, map, None, Some};
+    ghost use Rattle.std.specs.Prelude.{◌≡◌, false, [], map};
     ghost use Rattle.std.specs.List.{AllByRecursion};
-    ghost use Rattle.tabled_language.specs.Drafts.{takes};
-    ghost use Rattle.tabled_language.specs.Lent.{bytes_of};
-    ghost use Rattle.tabled_language.specs.Line.{has_byte, says_line, meaning_of, words_of};
-    ghost use Rattle.tabled_language.specs.Memory.{line_asks, span_asks, step_asks};
+    ghost use Rattle.tabled_language.specs.Drafts.{draft_of, takes};
+    ghost use Rattle.tabled_language.specs.Lent.{bytes_of, texts_in_records};
+    ghost use Rattle.tabled_language.specs.Line.{has_byte, says_line, says_words, words_of};
+    ghost use Rattle.tabled_language.specs.Memory.{line_asks, span_asks, step_asks, words_ask};
     ghost use Rattle.tabled_language.specs.Output.{IsOwnWord};
     ghost use Rattle.tabled_language.specs.Parsing.{BecomesScript, IsPlaced, ReadsLine, ReadsVerb, ReadsWords, draft_in};
     ghost use Rattle.tabled_language.specs.Verb.{RecordLine, says_shape, says_span, says_step};
 
-    pub(crate) fn new(alloc: Global) -> Self
-        ensures shape { result.shape ≡ None }
-        ensures records { result.records.items ≡ [] }
-        ensures spans { result.spans ≡ record { anchors = []; numbers = [] } }
-        ensures steps { result.steps.items ≡ [] }
+    /// The draft of records that are read.
+    pub(crate) fn of_records(alloc: Global, records: Vec<Vec<LentText<'a>>>) -> Self
+        ensures { draft_in result ≡ draft_of (map RecordLine (texts_in_records records.entry.items)) }
     {
         Draft {
             shape: None,
-            records: Vec::new(alloc),
+            records,
             spans: SpanLines::new(alloc),
             steps: Vec::new(alloc),
+            step_lines: Vec::new(alloc),
         }
     }
 
@@ -106,9 +107,24 @@ impl<'a> Draft<'a> {
         }
     }
 
+    /// Adds what words say as those of a line, or says why they aren't read.
+    pub(crate) fn read_given(
+        &mut self,
+        alloc: Global,
+        number: usize,
+        words: Vec<LentText<'a>>,
+    ) -> Read<()>
+        ensures { ReadsLine (draft_in self.old) number (says_words (map bytes_of words.entry.items)) (words_ask (takes (draft_in self.old)) (map bytes_of words.entry.items)) result (draft_in self.new) }
+    {
+        if make_empty_line(&words) {
+            return Ok(());
+        }
+        self.read_texts(alloc, number, words)
+    }
+
     /// Adds what a line's texts say, or says why they aren't read.
     fn read_texts(&mut self, alloc: Global, number: usize, mut texts: Vec<LentText<'a>>) -> Read<()>
-        ensures { ReadsLine (draft_in self.old) number (meaning_of (Some (map bytes_of texts.entry.items))) true result (draft_in self.new) }
+        ensures { ReadsWords (draft_in self.old) number (map bytes_of texts.entry.items) result (draft_in self.new) }
     {
         if texts.is_empty() {
             return Ok(());
@@ -131,7 +147,7 @@ impl<'a> Draft<'a> {
         match verb {
             "shape" => self.read_shape(number, words),
             "span" => self.read_span(number, words),
-            verb => self.read_step(alloc, verb, words),
+            verb => self.read_step(alloc, number, verb, words),
         }
     }
 
@@ -184,13 +200,14 @@ impl<'a> Draft<'a> {
     }
 
     /// Adds the step that a verb and the words after it say, or says why it isn't read.
-    fn read_step(&mut self, alloc: Global, verb: &str, mut words: Words) -> Read<()>
-        ensures { (n : ℕ) → ReadsLine (draft_in self.old) n (says_step verb.now words.entry) (step_asks verb.now words.entry) result (draft_in self.new) }
+    fn read_step(&mut self, alloc: Global, number: usize, verb: &str, mut words: Words) -> Read<()>
+        ensures { ReadsLine (draft_in self.old) number (says_step verb.now words.entry) (step_asks verb.now words.entry) result (draft_in self.new) }
     {
         let step = words.step(alloc, verb)?;
         if words.left() > 0 {
             return Err(Fault::WordCount.into());
         }
+        self.step_lines.push(number)?;
         self.steps.push(step)?;
         Ok(())
     }
@@ -205,6 +222,7 @@ impl<'a> Draft<'a> {
             records,
             spans,
             steps,
+            step_lines,
         } = self;
         let rows = records.len();
         let columns = longest(&records);
@@ -219,6 +237,7 @@ impl<'a> Draft<'a> {
             records,
             spans,
             steps,
+            step_lines,
         })
     }
 }

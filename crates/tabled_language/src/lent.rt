@@ -1,4 +1,4 @@
-//! Texts that are lent by the bytes of a script, or their own.
+//! Texts that are lent, or their own.
 
 ghost use Rattle.std.specs.Prelude.{◌≡◌, []};
 ghost use Rattle.tabled_language.specs.Lent.{bytes_of};
@@ -8,13 +8,14 @@ use crate::short::ShortText;
 use std::alloc::{AllocError, Global};
 use tabled_grid::records::{Blank, CellText, FromText};
 
-/// A text that stands in the bytes of a script, one that stands in the cell, or one that has memory of
-/// its own. All are cells.
+/// A text that stands in the bytes of a script, one that is lent by anything else, one that stands in the cell, or one
+/// that has memory of its own. All are cells.
 ///
 /// Of this project.
 #[derive(Drop)]
 pub enum LentText<'a> {
     Lent(PlainText<'a>),
+    Str(&'a str),
     Short(ShortText),
     Own(Box<String>),
 }
@@ -33,9 +34,21 @@ impl<'a> LentText<'a> {
     {
         match self {
             LentText::Lent(text) => Some(text.as_word()),
+            LentText::Str(_) => None,
             LentText::Short(_) => None,
             LentText::Own(_) => None,
         }
+    }
+}
+
+impl<'a> From<&'a str> for LentText<'a> {
+    ghost use Rattle.std.specs.Prelude.{◌≡◌};
+    ghost use Rattle.tabled_language.specs.Lent.{bytes_of};
+
+    ghost from_gives = { λ text lent. bytes_of lent ≡ text.now };
+
+    fn from(text: &'a str) -> LentText<'a> {
+        LentText::Str(text)
     }
 }
 
@@ -55,6 +68,7 @@ impl<'a> CellText for LentText<'a> {
     fn text(&self) -> &str {
         match self {
             LentText::Lent(text) => text.as_word(),
+            LentText::Str(text) => text,
             LentText::Short(text) => text.as_str(),
             LentText::Own(text) => text.as_str(),
         }

@@ -4,7 +4,7 @@ ghost use Rattle.std.specs.Prelude.{◌≡◌, map, false, IfOk, MatchOption, So
 ghost use Rattle.std.specs.List.{AllByRecursion};
 ghost use Rattle.std.specs.Option.{option_map};
 ghost use Rattle.tabled_language.specs.Lent.{bytes_of};
-ghost use Rattle.tabled_language.specs.Line.{has_byte, is_plain, texts_of, words_of};
+ghost use Rattle.tabled_language.specs.Line.{has_byte, is_plain, make_empty_line, texts_of, words_of};
 ghost use Rattle.tabled_language.specs.Output.{IsOwnWord};
 
 use crate::lent::LentText;
@@ -14,6 +14,7 @@ use crate::text_parts::Fields;
 use crate::word::lent_text;
 use std::alloc::{AllocError, Global};
 use std::str;
+use tabled_grid::records::CellText;
 
 /// Bytes as a text, if they are UTF-8 without a backslash: then the words are their own texts.
 pub(crate) fn plain(bytes: &[u8]) -> Option<&str>
@@ -61,4 +62,11 @@ pub(crate) fn lent_texts<'a>(
         texts.push(LentText::Lent(PlainText::new(word)))?;
     }
     Ok(texts)
+}
+
+/// Says whether the line of texts is empty: they are one empty word.
+pub(crate) fn make_empty_line(texts: &[LentText]) -> bool
+    ensures { result ≡ make_empty_line (map bytes_of texts.now) }
+{
+    texts.len() == 1 && texts[0].text().is_empty()
 }

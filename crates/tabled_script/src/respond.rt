@@ -112,6 +112,7 @@ fn show<W: Write, E: Write>(
         records,
         mut spans,
         steps,
+        ..
     } = script;
     let mut records = padded(records)?;
     run_steps(

@@ -5,7 +5,9 @@ use tabled_grid::config::SpannedConfig;
 use tabled_grid::records::{
     CellText, ExactRecords, PeekableRecords, Records, RecordsMut, Resizable,
 };
-use tabled_language::{LentText, ParseError, Script, padded, parse};
+use tabled_language::{
+    LentText, Origin, ParseError, Script, count_lines, origin_of, padded, parse, parse_between,
+};
 use tabled_steps::run;
 
 /// Does the steps of a script to a store, or answers the number of the first faulty line.
@@ -38,6 +40,7 @@ pub fn ends_with(alloc: Global, input: &[u8]) -> Result<(usize, usize), ParseErr
         records,
         mut spans,
         steps,
+        ..
     } = parse(alloc, input)?;
     let mut cells = padded(records)?;
     match run(alloc, &mut cells, &mut spans, steps) {
@@ -62,4 +65,21 @@ pub fn lent_words(alloc: Global, input: &[u8]) -> Result<String, ParseError> {
         }
     }
     Ok(words)
+}
+
+/// Where the first faulty line of a script comes from that stands between rows and words, if one is faulty.
+pub fn first_faulty<'a>(
+    alloc: Global,
+    rows: Vec<Vec<LentText<'a>>>,
+    input: &'a [u8],
+    words: Vec<Vec<LentText<'a>>>,
+) -> Result<Option<Origin>, AllocError> {
+    let many = rows.len();
+    match parse_between(alloc, rows, input, words) {
+        Ok(_) => Ok(None),
+        Err(ParseError::Faulty { line, .. }) => {
+            Ok(Some(origin_of(many, count_lines(input), line)))
+        }
+        Err(ParseError::OutOfMemory) => Err(AllocError),
+    }
 }

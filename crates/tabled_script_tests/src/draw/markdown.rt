@@ -63,6 +63,7 @@ fn marked_after(alloc: Global, script: Script, aligns: &[Alignment]) -> Result<S
         records,
         mut spans,
         steps,
+        ..
     } = script;
     let mut records = padded(records)?;
     if let Err((_, error)) = run(alloc, &mut records, &mut spans, steps) {

@@ -33,6 +33,7 @@ fn drawn_after(alloc: Global, script: Script, look: &Look<'_>) -> Result<String,
         records,
         mut spans,
         steps,
+        ..
     } = script;
     let mut records = padded(records)?;
     match run(alloc, &mut records, &mut spans, steps) {

@@ -4,6 +4,7 @@ mod case;
 mod cuts;
 mod joins;
 mod large;
+mod lines;
 mod panels;
 mod selectors;
 mod spans;

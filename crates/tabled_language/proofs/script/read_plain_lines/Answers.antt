@@ -1,35 +1,39 @@
-use Rattle.tabled_language.proofs.Common.{[], ◌≡◌, List, arith, draft_in, parts_lack, rules, ℕ}
-use Rattle.tabled_language.proofs.ScriptLines.{has_read-counts, has_read-end, has_read-more, has_read-start, script_ends}
+use Rattle.tabled_language.proofs.Common.{[], ◌≡◌, InBytes, List, arith, draft_in, length-map, lines_of, map, parts_lack, parts_lack_separator, rules, ℕ}
+use Rattle.tabled_language.proofs.EndedLines.{few_lines}
+use Rattle.tabled_language.proofs.GivenLines.{leaves-all, leaves-end, leaves-less, leaves-none}
 use Rattle.tabled_language.proofs.script.read_plain_lines.Goals as goal
 
 pub loop-line-init : goal.loop-line-init
 loop-line-init c = record {
-  read = search (rules, has_read-start c.args.text.now);
-  no_escape = search (rules, parts_lack 92 10 c.args.text.now c.requires);
+  leaves = search (rules, leaves-all (draft_in c.args.draft) c.args.before (map InBytes (lines_of c.args.text.now)));
+  no_newline = search (rules, parts_lack_separator 10 c.args.text.now);
+  no_escape = search (rules, parts_lack 92 10 c.args.text.now c.requires.no_escape);
 }
 
 pub overflow_add-number : goal.overflow_add-number
-overflow_add-number c = omega (arith, has_read-counts c.args.text.now c.in-Some.line.now c.next.new.self c.loop-line.number (draft_in c.loop-line.draft) (rw c.in-Some.ensures.steps at c.loop-line.invariant.read))
+overflow_add-number c =
+    let left = rw c.in-Some.ensures.steps at c.loop-line.invariant.leaves in
+    omega (arith, left.counted, few_lines c.args.text.now, length-map (lines_of c.args.text.now) InBytes, c.requires.few)
 
 pub read_plain-requires-clause-no_newline : goal.read_plain-requires-clause-no_newline
-read_plain-requires-clause-no_newline c = (rw c.in-Some.ensures.steps at c.loop-line.invariant.read).lack.0
+read_plain-requires-clause-no_newline c = (rw c.in-Some.ensures.steps at c.loop-line.invariant.no_newline).0
 
 pub read_plain-requires-clause-no_escape : goal.read_plain-requires-clause-no_escape
 read_plain-requires-clause-no_escape c = (rw c.in-Some.ensures.steps at c.loop-line.invariant.no_escape).0
 
 pub returns-in-Err : goal.returns-in-Err
-returns-in-Err c =
-    rw c.in_line.ensures (script_ends c.args.text.now c.in-Some.line.now c.next.new.self c.loop-line.number (draft_in c.loop-line.draft) c.in-Err.error (rw c.in-Some.ensures.steps at c.loop-line.invariant.read) (rw c.in-Err.is at c.read_plain.ensures))
+returns-in-Err c = rw c.in_line.ensures (leaves-end (InBytes c.in-Some.line.now) c.in-Err.error (rw c.in-Some.ensures.steps at c.loop-line.invariant.leaves) (rw c.in-Err.is at c.read_plain.ensures))
 
 pub loop-line-preserved : goal.loop-line-preserved
 loop-line-preserved c =
     let read = rw c.in_default.is at c.read_plain.ensures in
     record {
-      read = rw read.1 (has_read-more c.in-Some.line.now (rw c.in-Some.ensures.steps at c.loop-line.invariant.read) read.0);
+      leaves = rw read.1 (leaves-less (InBytes c.in-Some.line.now) (rw c.in-Some.ensures.steps at c.loop-line.invariant.leaves) read.0);
+      no_newline = (rw c.in-Some.ensures.steps at c.loop-line.invariant.no_newline).1;
       no_escape = (rw c.in-Some.ensures.steps at c.loop-line.invariant.no_escape).1;
     }
 
 pub returns : goal.returns
 returns c =
     let none : ◌≡◌ {A = List (List ℕ)} c.loop-line.line-iterator [] = search rules in
-    has_read-end (rw none at c.loop-line.invariant.read)
+    leaves-none c.loop-line.draft (rw none at c.loop-line.invariant.leaves)

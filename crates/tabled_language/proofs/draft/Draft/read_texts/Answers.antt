@@ -1,7 +1,5 @@
-use Rattle.tabled_language.proofs.Common.{◌∙◌, ◌∷◌, ◌≡◌, ◌≢◌, List, ap, ap₂, bytes_of, draft_in, length, map, refl, rules, sym, takes, ℕ}
-use Rattle.tabled_language.specs.Memory.{verb_asks}
-use Rattle.tabled_language.specs.Verb.{says_verb}
-use Rattle.tabled_language.proofs.ScriptLines.{asks_anyway, first_removed, meaning_of-verb, same_line}
+use Rattle.tabled_language.proofs.Common.{◌∙◌, ◌∷◌, ◌≡◌, ◌≢◌, List, ap, ap₂, bytes_of, draft_in, length, map, rules, sym, takes, ℕ}
+use Rattle.tabled_language.proofs.ScriptLines.{first_removed, meaning_of-verb, same_line, words_ask-verb}
 use Rattle.tabled_language.proofs.draft.Draft.read_texts.Goals as goal
 
 pub returns-in_default : goal.returns-in_default
@@ -15,5 +13,4 @@ returns-in_default c =
     let left : c.of_texts.result ≡ others = search rules in
     let said = meaning_of-verb texts verb c.of_texts.result (first ∙ ap (λ words. verb ∷ words) (sym left)) c.in_default.not-row in
     let old = draft_in c.args.self.now in
-    let new = draft_in c.read_verb.new.self in
-    same_line old new c.args.number c.read_verb.result _ _ _ _ said refl (asks_anyway old new c.args.number (says_verb verb c.of_texts.result) (verb_asks (takes old) verb c.of_texts.result) c.read_verb.result c.read_verb.ensures)
+    same_line old (draft_in c.read_verb.new.self) c.args.number c.read_verb.result _ _ _ _ said (words_ask-verb (takes old) texts verb c.of_texts.result (first ∙ ap (λ words. verb ∷ words) (sym left)) c.in_default.not-row) c.read_verb.ensures
