@@ -2,7 +2,7 @@
 
 ghost use Rattle.std.specs.Prelude.{◌≤◌, IfOk, length};
 
-use crate::fault::{Fault, ReadError};
+use crate::fault::{Fault, LineError};
 use crate::lent::LentText;
 use crate::parts::Parts;
 use crate::texts::escaped_texts;
@@ -24,9 +24,9 @@ pub fn faulty_word(alloc: Global, words: &[LentText]) -> Result<usize, AllocErro
     let read = read_behind(alloc, verb.text(), &mut rest);
     let asked = words.len().saturating_sub(rest.left());
     match read {
-        Ok(()) | Err(ReadError::Faulty(Fault::WordCount)) => Ok(asked),
-        Err(ReadError::Faulty(_)) => Ok(asked.saturating_sub(1)),
-        Err(ReadError::OutOfMemory) => Err(AllocError),
+        Ok(()) | Err(LineError::Faulty(Fault::WordCount)) => Ok(asked),
+        Err(LineError::Faulty(_)) => Ok(asked.saturating_sub(1)),
+        Err(LineError::OutOfMemory) => Err(AllocError),
     }
 }
 
