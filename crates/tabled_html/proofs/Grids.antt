@@ -9,12 +9,10 @@ use Rattle.std.specs.Option.{option_map}
 use Rattle.tabled_grid.proofs.Common.{all-append}
 use Rattle.std.proofs.lemmas.Bool.{and_from, false_from_ne_true, and_parts}
 use Rattle.std.proofs.lemmas.Bool.Decides.{nat_tests}
-use Rattle.tabled_grid.proofs.Fitting.{keep_fitting-fits}
 use Rattle.tabled_grid.proofs.Grids.{cell_at-map_grid}
 use Rattle.tabled_grid.proofs.Members.{Member, get-member, member-get}
 use Rattle.tabled_grid.proofs.SpanMaps.{hidden_by, size_at-none, size_at-some}
 use Rattle.std.proofs.lemmas.List.{map-append}
-use Rattle.tabled_grid.specs.Fitting.{keep_fitting}
 use Rattle.tabled_grid.specs.Grid.{IsEmptyWithoutRows, cell_at, map_grid}
 use Rattle.tabled_html_reading.proofs.Formed.{tiled-formed}
 use Rattle.tabled_html.proofs.Owned.{LieWell, fits-well, member-owner, owned, owner-begins, owner-holds, owner-lies, owner-self, owner-shared}
@@ -25,7 +23,9 @@ use Rattle.tabled_html_reading.specs.Bytes.{table_bytes}
 use Rattle.tabled_html.specs.Elements.{html, span_attribute, td, tds_at, text_of_cell, tr_of, trs_of}
 use Rattle.tabled_html_reading.specs.Escaping.{shown}
 use Rattle.tabled_html_reading.specs.Forming.{colspan_of, forming_a_table, rowspan_of}
-use Rattle.tabled_html.specs.Laws.{AreWithinLimits, IsFormed, Shows, area_of, element_of, own_area}
+use Rattle.tabled_html.specs.Laws.{IsFormed, Shows, area_of, element_of, own_area}
+use Rattle.tabled_html.proofs.Within.{written-fits, written-within}
+use Rattle.tabled_html.specs.Limits.{AreWithinLimits, keep_written}
 use Rattle.tabled_html.specs.Owners.{owner_in}
 use Rattle.tabled_html_reading.specs.Showing.{AreFew, IsFew, IsFewTd, shown_td, shown_trs}
 
@@ -60,13 +60,13 @@ module _ (g : Grid (List ℕ)) (m : SpanMap) (fits : Fits m g.rows g.columns) wh
   module _ (limits : AreWithinLimits m) where
     narrow : (p : Position) → (owner_in (rectangles m) p).size.width ≤ 1000
     narrow p = elim (owned (rectangles m) p) [
-      | held member h ↦ limits.widths _ _ (member-get m (owner_in (rectangles m) p) member)
+      | held member h ↦ (limits.each _ (member-get m (owner_in (rectangles m) p) member)).width
       | alone is never ↦ omega (arith, ap (λ (o : Rectangle). o.size.width) is)
     ]
 
     low : (p : Position) → (owner_in (rectangles m) p).size.height ≤ 65534
     low p = elim (owned (rectangles m) p) [
-      | held member h ↦ limits.heights _ _ (member-get m (owner_in (rectangles m) p) member)
+      | held member h ↦ (limits.each _ (member-get m (owner_in (rectangles m) p) member)).height
       | alone is never ↦ omega (arith, ap (λ (o : Rectangle). o.size.height) is)
     ]
 
@@ -158,7 +158,7 @@ module _ (m : SpanMap) (limits : AreWithinLimits m) where
     where
       by : (o : Option Size) → get m p ≡ o → ((size_at m p).width ≤ 1000) × ((size_at m p).height ≤ 65534)
       by None e = let is = size_at-none m p e in (omega (arith, ap (λ (s : Size). s.width) is), omega (arith, ap (λ (s : Size). s.height) is))
-      by (Some size) e = let is = size_at-some m p size e in (omega (arith, ap (λ (s : Size). s.width) is, limits.widths p size e), omega (arith, ap (λ (s : Size). s.height) is, limits.heights p size e))
+      by (Some size) e = let is = size_at-some m p size e in let within = limits.each (rectangle p size) e in (omega (arith, ap (λ (s : Size). s.width) is, within.width), omega (arith, ap (λ (s : Size). s.height) is, within.height))
 
   tds-few : (g : Grid (List ℕ)) (p : Position) → AllByRecursion IsFewTd (tds_at g m p)
   tds-few g p = by (is_hidden m p)
@@ -178,6 +178,6 @@ module _ (m : SpanMap) (limits : AreWithinLimits m) where
     formed = formed (map_grid shown g) m fits empty limits;
   }
 
--- the merged cells that are written are those that fit
-pub html-shows : (g : Grid (List ℕ)) (m : SpanMap) → IsEmptyWithoutRows g → AreWithinLimits (keep_fitting g.rows g.columns m) → Shows g (keep_fitting g.rows g.columns m) (html g m)
-html-shows g m empty limits = rows-show (keep_fitting g.rows g.columns m) limits g empty (keep_fitting-fits g.rows g.columns m)
+-- the merged cells that are written fit, and are within the limits
+pub html-shows : (g : Grid (List ℕ)) (m : SpanMap) → IsEmptyWithoutRows g → Shows g (keep_written g.rows g.columns m) (html g m)
+html-shows g m empty = rows-show (keep_written g.rows g.columns m) (written-within g.rows g.columns m) g empty (written-fits g.rows g.columns m)

@@ -1,2 +1,3 @@
 pub mod Grids
 pub mod Owned
+pub mod Within

@@ -2,12 +2,12 @@
 use Rattle.std.specs.Prelude.{if◌then◌else◌, ℕ, List, [], ◌∷◌, None, Option, Some, nat_lt}
 use Rattle.std.specs.Option.{unwrap_or}
 use Rattle.tabled_grid.specs.Entity.{place}
-use Rattle.tabled_grid.specs.Fitting.{keep_fitting}
 use Rattle.tabled_grid.specs.Grid.{Grid, cell_at}
 use Rattle.tabled_grid.specs.Hidden.{is_hidden}
 use Rattle.tabled_grid.specs.Spans.{SpanMap, size_at}
 use Rattle.tabled_grid.specs.declared.config.position.Position.{Position}
 use Rattle.tabled_grid.specs.declared.config.size.Size.{Size}
+use Rattle.tabled_html.specs.Limits.{keep_written}
 use Rattle.tabled_html_reading.specs.Areas.{series}
 use Rattle.tabled_html_reading.specs.Bytes.{table_bytes}
 use Rattle.tabled_html_reading.specs.Forming.{Td}
@@ -38,6 +38,6 @@ tr_of g m i = series g.columns (λ j. tds_at g m (place i j))
 abbrev pub trs_of : Grid (List ℕ) → SpanMap → List (List Td)
 trs_of g m = series g.rows (λ i. tr_of g m i ∷ [])
 
--- the bytes of a table, with those of its merged cells that fit it
+-- the bytes of a table, with those of its merged cells that fit it and that HTML can say
 abbrev pub html : Grid (List ℕ) → SpanMap → List ℕ
-html g m = table_bytes (trs_of g (keep_fitting g.rows g.columns m))
+html g m = table_bytes (trs_of g (keep_written g.rows g.columns m))

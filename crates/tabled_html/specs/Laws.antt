@@ -1,11 +1,9 @@
 -- What holds of tables as HTML.
-use Rattle.std.specs.Prelude.{◌≡◌, ◌≤◌, ◌<◌, ◌==◌, ◌&&◌, ◌||◌, ℕ, Bool, List, [], ◌∷◌, Some, false, not, Err, Ok, Result}
+use Rattle.std.specs.Prelude.{◌≡◌, ◌<◌, ◌==◌, ◌&&◌, ◌||◌, ℕ, Bool, List, [], ◌∷◌, Some, false, not, Err, Ok, Result}
 use Rattle.tabled_grid.specs.Entity.{place}
 use Rattle.tabled_grid.specs.Grid.{Grid, map_grid}
-use Rattle.tabled_grid.specs.Spans.{SpanMap, get, rectangles, sized}
-use Rattle.tabled_grid.specs.declared.config.position.Position.{Position}
+use Rattle.tabled_grid.specs.Spans.{SpanMap, rectangles, sized}
 use Rattle.tabled_grid.specs.declared.config.rectangle.Rectangle.{Rectangle}
-use Rattle.tabled_grid.specs.declared.config.size.Size.{Size}
 use Rattle.tabled_html_reading.specs.Areas.{Area, IsOutside}
 use Rattle.tabled_html_reading.specs.Building.{parsed}
 use Rattle.tabled_html.specs.Elements.{td, text_of_cell}
@@ -14,11 +12,6 @@ use Rattle.tabled_html_reading.specs.Forming.{Cell, Forming, Td, any_below, cell
 use Rattle.tabled_html.specs.Owners.{owner_in}
 use Rattle.tabled_html.specs.declared.fault.WriteError.{WriteError}
 use Rattle.tabled_html.specs.declared.fault.WriteError.TheVariants.{Failed, OutOfMemory}
-
--- no merged cell takes more columns or rows than the standard lets an attribute say
-pub record AreWithinLimits (m : SpanMap) : Type 0 where
-  pub widths : (a : Position) (size : Size) → get m a ≡ Some size → size.width ≤ 1000
-  pub heights : (a : Position) (size : Size) → get m a ≡ Some size → size.height ≤ 65534
 
 -- the slots of an owner, whose columns are counted by x and its rows by y
 abbrev pub area_of : Rectangle → Area

@@ -1,3 +1,4 @@
 pub mod Elements
 pub mod Laws
+pub mod Limits
 pub mod Owners

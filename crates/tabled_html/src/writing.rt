@@ -5,18 +5,19 @@ ghost use Rattle.std.specs.List.{flat_map};
 ghost use Rattle.std.specs.Prelude.{◌≡◌, ◌<◌, Err, OnOk, decimal};
 ghost use Rattle.tabled_grid.specs.Covers.{IsCoverOf};
 ghost use Rattle.tabled_grid.specs.Entity.{place};
-ghost use Rattle.tabled_grid.specs.Fitting.{keep_fitting};
 ghost use Rattle.tabled_grid.specs.Grid.{IsEmptyWithoutRows, IsInside, map_grid};
 ghost use Rattle.tabled_grid.specs.Spans.{rectangle, sized};
 ghost use Rattle.tabled_held.specs.Pens.{Sends};
 ghost use Rattle.tabled_held.specs.Sent.{IsCutShort};
 ghost use Rattle.tabled_html.specs.Elements.{html, span_attribute, td, tds_at, tr_of, trs_of};
-ghost use Rattle.tabled_html.specs.Laws.{AreWithinLimits, OnFailed, Shows};
+ghost use Rattle.tabled_html.specs.Laws.{OnFailed, Shows};
+ghost use Rattle.tabled_html.specs.Limits.{keep_written};
 ghost use Rattle.tabled_html.specs.declared.fault.WriteError.TheVariants.{OutOfMemory};
 ghost use Rattle.tabled_html_reading.specs.Bytes.{attribute, table_bytes, td_bytes, tr_bytes};
 ghost use Rattle.tabled_html_reading.specs.Escaping.{escaped, escaped_byte};
 
 use crate::fault::WriteError;
+use crate::limits::spans_written;
 use std::alloc::Global;
 use std::io::Write;
 use tabled_grid::config::{CoverMap, Position, Size, SpannedConfig};
@@ -149,7 +150,8 @@ where
 }
 
 /// Writes a table (`r x c`) as HTML: a `table` with a `tr` for each row and a `td` for each cell where it begins, with
-/// `colspan` and `rowspan` of merged cells. Rectangles that don't fit the table count as single cells.
+/// `colspan` and `rowspan` of merged cells. Rectangles that don't fit the table, or that take more than 1000
+/// columns or 65,534 rows, which the standard doesn't take, count as single cells.
 ///
 /// Its texts stand for themselves, but for U+0000, which HTML has no way to write: U+FFFD is shown for it.
 ///
@@ -170,8 +172,8 @@ where
     requires well { R.is_well_formed records.now }
     ensures written { OnOk result (Appends (W.contents writer.old) (W.contents writer.new) (html (map_grid R.Cell.text_of (R.grid records.now)) cfg.now)) }
 
-    // What is written is read as elements that form the grid, where merged cells are within the standard's limits.
-    ensures shows { OnOk result (IsEmptyWithoutRows (R.grid records.now) → AreWithinLimits (keep_fitting (R.grid records.now).rows (R.grid records.now).columns cfg.now) → Shows (map_grid R.Cell.text_of (R.grid records.now)) (keep_fitting (R.grid records.now).rows (R.grid records.now).columns cfg.now) (html (map_grid R.Cell.text_of (R.grid records.now)) cfg.now)) }
+    // What is written is read as elements that form the grid.
+    ensures shows { OnOk result (IsEmptyWithoutRows (R.grid records.now) → Shows (map_grid R.Cell.text_of (R.grid records.now)) (keep_written (R.grid records.now).rows (R.grid records.now).columns cfg.now) (html (map_grid R.Cell.text_of (R.grid records.now)) cfg.now)) }
 
     // Where memory is refused the writer got nothing, and where it failed the first bytes, and not all.
     ensures memory { result ≡ Err OutOfMemory → W.contents writer.new ≡ W.contents writer.old }
@@ -179,7 +181,7 @@ where
 {
     let rows = records.count_rows();
     let columns = records.count_columns();
-    let spans = cfg.fitting(alloc, rows, columns)?;
+    let spans = spans_written(alloc, cfg, rows, columns)?;
     let cover = CoverMap::new(alloc, &spans, rows, columns)?;
     let held = Held::new(alloc)?;
     let mut pen = Pen::new(writer, held);

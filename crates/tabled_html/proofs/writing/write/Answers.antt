@@ -19,7 +19,7 @@ returns-in-Ok-clause-written g c =
     search rules
 
 pub returns-in-Ok-clause-shows : goal.returns-in-Ok-clause-shows
-returns-in-Ok-clause-shows g c empty limits = html-shows (map_grid g.R.Cell.CellText.text_of (g.R.GridStore.grid c.args.records.now)) c.args.cfg.now empty limits
+returns-in-Ok-clause-shows g c empty = html-shows (map_grid g.R.Cell.CellText.text_of (g.R.GridStore.grid c.args.records.now)) c.args.cfg.now empty
 
 pub returns-clause-failed : goal.returns-clause-failed
 returns-clause-failed g c =
