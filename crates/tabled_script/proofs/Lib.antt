@@ -9,6 +9,6 @@ pub mod LinesBehind
 pub mod Narrowed
 pub mod OutputLines
 pub mod Rooms
-pub mod Sent
 pub mod Texts
 pub mod Told
+pub mod Works

@@ -9,5 +9,4 @@ pub mod Narrow
 pub mod Outcome
 pub mod Refusals
 pub mod Requests
-pub mod Sent
 pub mod Status

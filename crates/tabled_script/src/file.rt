@@ -8,9 +8,9 @@ ghost use Rattle.tabled_script.specs.Answer.{memory_line};
 ghost use Rattle.tabled_script.specs.Asked.{AreLinesBefore, IsFaulty, file_fault_line, file_fault_number};
 ghost use Rattle.tabled_script.specs.Status.{IsOtherThanDone, faulty, out_of_memory};
 
+use crate::csv_form::row_lines;
 use crate::request::CsvFile;
 use crate::respond::{FAILED, FAULTY, finish, write_whole};
-use crate::values::row_lines;
 use std::alloc::{AllocError, Global};
 use std::io::Write;
 use tabled_csv::{Fault, ReadError, Room, read};

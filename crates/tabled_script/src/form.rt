@@ -6,9 +6,9 @@ ghost use Rattle.tabled_script.specs.Answer.{LeavesUndrawn, ShowsState};
 ghost use Rattle.tabled_script.specs.InMemory.{state_in};
 ghost use Rattle.tabled_script.specs.Outcome.{IfDrawn, IfUndrawn};
 
-use crate::output::write_script;
+use crate::csv_form::write_csv;
 use crate::picture::{TooNarrow, write_markdown, write_narrow_picture, write_picture};
-use crate::values::write_values;
+use crate::script_form::write_script;
 use std::alloc::{AllocError, Global};
 use std::io::{self, Write};
 use tabled_csv::Separator;
@@ -51,7 +51,7 @@ impl Form {
         ensures refused { OnErr result (W.contents writer.new ≡ W.contents writer.old) }
     {
         match self {
-            Form::Script => Ok(Ok(write_script(alloc, records, spans, writer)?)),
+            Form::Script => Ok(Ok(write_script(alloc, &records, spans, writer)?)),
             Form::Picture(style, alignments) => Ok(Ok(write_picture(
                 alloc, records, spans, *style, alignments, writer,
             )?)),
@@ -61,7 +61,7 @@ impl Form {
             Form::Markdown(alignments) => Ok(Ok(write_markdown(
                 alloc, records, spans, alignments, writer,
             )?)),
-            Form::Csv(separator) => Ok(Ok(write_values(alloc, records, *separator, writer)?)),
+            Form::Csv(separator) => Ok(Ok(write_csv(alloc, &records, *separator, writer)?)),
         }
     }
 }

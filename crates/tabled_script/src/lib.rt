@@ -3,28 +3,28 @@
 
 mod arguments;
 mod checked;
+mod csv_form;
 mod cuts;
 mod file;
 mod form;
-mod held;
 mod help;
 pub mod laws;
 mod limits;
 mod message;
 mod narrow;
-mod output;
 mod picture;
 mod program;
 mod refusal;
 mod request;
 mod respond;
+mod script_form;
 mod setting;
 mod source;
 mod telling;
 #[cfg(test)]
 mod tests;
-mod values;
 mod watched;
+mod words;
 
 pub use arguments::Arguments;
 pub use form::Form;

@@ -1,0 +1,125 @@
+//! A table as a script.
+
+ghost use Rattle.std.specs.Io.KnownBytes.{Appends};
+ghost use Rattle.std.specs.List.{AllByRecursion, flat_map};
+ghost use Rattle.std.specs.Prelude.{◌≡◌, ◌≤◌, [], ◌∷◌, None, codes, length, map, OnErr, OnOk};
+ghost use Rattle.std.specs.Str.{IsUtf8};
+ghost use Rattle.tabled_grid.specs.Grid.{IsEven, grid_of, map_items, width_of};
+ghost use Rattle.tabled_grid.specs.Spans.{rectangles};
+ghost use Rattle.tabled_held.specs.Pens.{Sends};
+ghost use Rattle.tabled_language.specs.Lent.{bytes_of, texts_in_row};
+ghost use Rattle.tabled_language.specs.Output.{line, print, row_line, span_line, table_lines};
+ghost use Rattle.tabled_language.specs.Word.{largest_size};
+ghost use Rattle.tabled_script.specs.Answer.{IsTableIfFitting};
+ghost use Rattle.tabled_script.specs.InMemory.{state_in, texts_in};
+ghost use Rattle.tabled_script.specs.Outcome.{IfWritten};
+
+use crate::words::{write_numbers, write_word};
+use std::alloc::{AllocError, Global};
+use std::io::{self, Write};
+use tabled_grid::config::{Rectangle, SpannedConfig};
+use tabled_grid::records::{ExactRecords, Records};
+use tabled_held::{Held, Pen};
+use tabled_language::LentText;
+
+/// Writes the lines of a table: its shape, its rows, and then its merged cells. It flushes the writer. All memory is
+/// asked for before the first byte: refused, nothing is written.
+pub(crate) fn write_script<W: Write>(
+    alloc: Global,
+    records: &Vec<Vec<LentText>>,
+    spans: &SpannedConfig,
+    writer: &mut W,
+) -> Result<io::Result<()>, AllocError>
+    requires { IsEven (grid_of (map_items records.now.items)) }
+    ensures written { IfWritten result (Appends (W.contents writer.old) (W.contents writer.new) (print (state_in records.now.items spans.now))) }
+    ensures known { IfWritten result (IsTableIfFitting (state_in records.now.items spans.now)) }
+    ensures refused { OnErr result (W.contents writer.new ≡ W.contents writer.old) }
+{
+    let held = Held::new(alloc)?;
+    Ok(write_lines(writer, held, records, spans))
+}
+
+/// Writes the lines of a table, and flushes the writer.
+fn write_lines<W: Write>(
+    writer: &mut W,
+    held: Held,
+    records: &Vec<Vec<LentText>>,
+    spans: &SpannedConfig,
+) -> io::Result<()>
+    requires even { IsEven (grid_of (map_items records.now.items)) }
+    requires unused { held.bytes ≡ [] }
+    ensures written { OnOk result (Appends (W.contents writer.old) (W.contents writer.new) (print (state_in records.now.items spans.now))) }
+    ensures known { OnOk result (IsTableIfFitting (state_in records.now.items spans.now)) }
+{
+    send_lines(writer, held, records, spans)?;
+    writer.flush()
+}
+
+/// Writes the lines of a table.
+fn send_lines<W: Write>(
+    writer: &mut W,
+    held: Held,
+    records: &Vec<Vec<LentText>>,
+    spans: &SpannedConfig,
+) -> io::Result<()>
+    requires even { IsEven (grid_of (map_items records.now.items)) }
+    requires unused { held.bytes ≡ [] }
+    ensures written { OnOk result (Appends (W.contents writer.old) (W.contents writer.new) (print (state_in records.now.items spans.now))) }
+    ensures known { OnOk result (IsTableIfFitting (state_in records.now.items spans.now)) }
+{
+    let mut pen = Pen::new(writer, held);
+    write_table(&mut pen, records);
+    write_spans(&mut pen, spans);
+    let (written, outcome) = pen.finish();
+    // No effect: the proof reads here what the writer got.
+    let _ = &*written;
+    outcome
+}
+
+/// Writes a table's shape, and then its rows.
+fn write_table<W: Write>(pen: &mut Pen<'_, W>, records: &Vec<Vec<LentText>>)
+    requires { IsEven (grid_of (map_items records.now.items)) }
+    ensures sends { Sends W.contents pen.old pen.new (table_lines (texts_in records.now.items)) }
+    ensures texts { pen.new.held.failure ≡ None → AllByRecursion (AllByRecursion IsUtf8) (map (map bytes_of) (map_items records.now.items)) }
+    ensures sizes { (length (map_items records.now.items) ≤ largest_size) × (width_of (map_items records.now.items) ≤ largest_size) }
+{
+    let shape = [records.count_rows(), records.count_columns()];
+    write_numbers(pen, "shape", &shape);
+    write_rows(pen, records);
+}
+
+/// Writes the lines of rows, up to the first at which the writer has failed.
+fn write_rows<W: Write>(pen: &mut Pen<'_, W>, rows: &[Vec<LentText>])
+    ensures sends { Sends W.contents pen.old pen.new (flat_map (λ row. row_line (texts_in_row row)) rows.now) }
+    ensures texts { pen.new.held.failure ≡ None → AllByRecursion (λ row. AllByRecursion IsUtf8 (texts_in_row row)) rows.now }
+{
+    for row in rows {
+        write_row(pen, row);
+        if pen.has_failed() {
+            return;
+        }
+    }
+}
+
+/// Writes the line of a row's texts.
+fn write_row<W: Write>(pen: &mut Pen<'_, W>, texts: &[LentText])
+    ensures sends { Sends W.contents pen.old pen.new (row_line (map bytes_of texts.now)) }
+    ensures texts { AllByRecursion IsUtf8 (map bytes_of texts.now) }
+{
+    pen.send(b"row");
+    for text in texts {
+        write_word(pen, text);
+    }
+    pen.send_byte(b'\n');
+}
+
+/// Writes the lines of merged cells.
+fn write_spans<W: Write>(pen: &mut Pen<'_, W>, cfg: &SpannedConfig)
+    ensures { Sends W.contents pen.old pen.new (flat_map span_line (rectangles cfg.now)) }
+{
+    for rectangle in cfg.rectangles() {
+        let Rectangle { first, size } = *rectangle;
+        let numbers = [first.row, first.col, size.height, size.width];
+        write_numbers(pen, "span", &numbers);
+    }
+}

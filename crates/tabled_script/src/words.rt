@@ -1,0 +1,115 @@
+//! Words of lines, as a pen writes them.
+
+ghost use Rattle.std.specs.Fmt.{decimal};
+ghost use Rattle.std.specs.Prelude.{◌≡◌, ◌∷◌, IsTrue, IsUtf8, map};
+ghost use Rattle.tabled_held.specs.Pens.{Sends};
+ghost use Rattle.tabled_language.specs.Lent.{bytes_of};
+ghost use Rattle.tabled_language.specs.Output.{escaped, escaped_byte, line};
+
+use std::io::Write;
+use tabled_grid::records::CellText;
+use tabled_held::Pen;
+use tabled_language::LentText;
+
+/// Writes the line of a name and numbers.
+pub(crate) fn write_numbers<W: Write>(pen: &mut Pen<'_, W>, name: &str, numbers: &[usize])
+    requires { escaped name.now ≡ name.now }
+    ensures { Sends W.contents pen.old pen.new (line (name.now ∷ map decimal numbers.now)) }
+{
+    pen.send(name.as_bytes());
+    for number in numbers {
+        pen.send_byte(b'\t');
+        write_number(pen, *number);
+    }
+    pen.send_byte(b'\n');
+}
+
+/// Writes a number's digits.
+fn write_number<W: Write>(pen: &mut Pen<'_, W>, number: usize)
+    ensures { Sends W.contents pen.old pen.new (decimal number) }
+{
+    if number < 10 {
+        pen.send_byte(b'0' + number as u8);
+        return;
+    }
+    write_number(pen, number / 10);
+    pen.send_byte(b'0' + (number % 10) as u8);
+}
+
+/// Writes a tab, and the word that stands for a text.
+#[inline(always)]
+pub(crate) fn write_word<W: Write>(pen: &mut Pen<'_, W>, text: &LentText)
+    ensures word { Sends W.contents pen.old pen.new (9 ∷ escaped (bytes_of text.now)) }
+    ensures text { IsUtf8 (bytes_of text.now) }
+{
+    match text.as_word() {
+        Some(word) => pen.send_behind(b'\t', word.as_bytes()),
+        None => write_escaped(pen, text.text()),
+    }
+}
+
+/// Writes a tab, and the word that stands for a text whose bytes are looked at first.
+pub(crate) fn write_escaped<W: Write>(pen: &mut Pen<'_, W>, text: &str)
+    ensures { Sends W.contents pen.old pen.new (9 ∷ escaped text.now) }
+{
+    let bytes = text.as_bytes();
+    // Few texts have a byte to escape, and the others are copied whole.
+    if is_plain(bytes) {
+        pen.send_behind(b'\t', bytes);
+    } else {
+        write_each(pen, bytes);
+    }
+}
+
+/// Writes a tab, and the word that stands for bytes, byte by byte.
+// A call of its own keeps `write_escaped` small.
+#[inline(never)]
+fn write_each<W: Write>(pen: &mut Pen<'_, W>, bytes: &[u8])
+    ensures { Sends W.contents pen.old pen.new (9 ∷ escaped bytes.now) }
+{
+    pen.send_byte(b'\t');
+    for byte in bytes {
+        write_escaped_byte(pen, *byte);
+    }
+}
+
+/// Writes a byte as it stands in a word.
+fn write_escaped_byte<W: Write>(pen: &mut Pen<'_, W>, byte: u8)
+    ensures { Sends W.contents pen.old pen.new (escaped_byte byte) }
+{
+    match byte {
+        b'\t' => pen.send(b"\\t"),
+        b'\n' => pen.send(b"\\n"),
+        b'\\' => pen.send(b"\\\\"),
+        _ => pen.send_byte(byte),
+    }
+}
+
+/// Says whether a text is a word as it is.
+fn is_plain(text: &[u8]) -> bool
+    ensures { IsTrue result → escaped text.now ≡ text.now }
+{
+    let mut rest = text;
+    // A loop of eight steps is written out by the compiler, which takes half of the time.
+    while 8 <= rest.len() {
+        let (part, others) = rest.split_at(8);
+        if !is_plain_part(part) {
+            return false;
+        }
+        rest = others;
+    }
+    is_plain_part(rest)
+}
+
+/// Says whether a text is a word as it is, byte by byte.
+fn is_plain_part(text: &[u8]) -> bool
+    ensures { IsTrue result → escaped text.now ≡ text.now }
+{
+    for byte in text {
+        // Small letters, and all that is no ASCII, lie after the backslash: one comparison passes them.
+        if *byte <= b'\\' && matches!(*byte, b'\t' | b'\n' | b'\\') {
+            return false;
+        }
+    }
+    true
+}
