@@ -1,4 +1,4 @@
-"""The pages of docs/api: one a public module, and an index of all public names."""
+"""docs/API.md, the index of all public names, and on demand a page of each public module."""
 
 import os.path
 import re
@@ -151,25 +151,35 @@ def page(module, modules, exports, files):
     return re.sub(r"\n{3,}", "\n\n", text).rstrip() + "\n"
 
 
-def index(crates, exports, files):
-    """docs/api/README.md: what is alike in all, and each public name with its page."""
-    out = ["# Index of public names", ""]
-    out += ["Each name leads to its page, which has its whole words, its contract and the paths to import. [README](../../README.md) says what *refused* means.", "", *SAID_ONCE]
+def line_of(text, name):
+    """The line of a file where a name is declared; that of a call of a type stands below an `impl` of it."""
+    owner, _, own = name.rpartition("::")
+    start = 0
+    if owner:
+        found = re.search(rf"^(?:impl|(?:pub )?trait)\b[^\n{{]*\b{owner}\b", text, re.M)
+        start = found.start() if found else 0
+    found = re.compile(rf"\b(?:fn|struct|enum|trait|mod|type|const|macro_rules!) {own}\b").search(text, start)
+    return text.count("\n", 0, found.start() if found else start) + 1
+
+
+def index(crates):
+    """docs/API.md: what is alike in all, and each public name with its line of src."""
+    out = ["# Index of public names", "", BEGUN, "", *SAID_ONCE]
     for modules in crates:
         out += ["", f"## `{modules[0].crate}`"]
         for module in modules:
-            parts = [it for it in module.parts() if it.kind != "impl"]
-            offers = [f"- {it}" for it in reexports(module, exports, files, str)]
-            meant = [it.name for it in module.parts() if it.kind == "impl"]
-            if not parts and not offers and not meant:
+            paths = {source.text: source.path for source, _ in module.sources}
+            told = [it for _, told in module.sources for it in told]
+            meant = [it.name for _, it in told if it.kind == "impl"]
+            if not told:
                 continue
-            out += ["", f"### [`{module.path()}`]({module.file()})", ""]
-            for part in parts:
-                link = f"[`{part.name}`]({module.file()}#{anchor(part.name)})"
-                out += [f"{'  ' * (part.kind == 'call')}- {link}: {first_sentence(part.words)}"]
-            if not parts and meant:
+            out += ["", f"### `{module.path()}`", ""]
+            for text, part in told:
+                if part.kind != "impl":
+                    link = f"../crates/{module.crate}/src/{paths[text]}#L{line_of(text, part.name)}"
+                    out += [f"{'  ' * (part.kind == 'call')}- [`{part.name}`]({link}): {first_sentence(part.words)}"]
+            if len(meant) == len(told):
                 out += [f"- `{of}`: a store, by " + ", ".join(f"`{it}`" for it in traits) for of, traits in meanings(meant)]
-            out += offers
     return "\n".join(out) + "\n"
 
 
@@ -182,8 +192,12 @@ def meanings(names):
     return found.items()
 
 
+BEGUN = """\
+Each name leads to its line of src, where its whole words and its contract stand. `docs/make --api FOLDER` writes a page
+for each module, with the paths to import. [README](../README.md) says what *refused* means."""
+
 SAID_ONCE = """\
-What is alike in all is said here, and left out of the pages:
+What is alike in all:
 
 - Each option proves `acts_like`: one that may stand for it (`is_like`; where it doesn't say, an equal one) acts like it.
 - Where a page doesn't say when an option can be used (`can_change`), an object listed (`can_list`) or a location asked
@@ -193,14 +207,21 @@ What is alike in all is said here, and left out of the pages:
 - `IfOk result f`: where the result is `Ok v`, f holds of v. `OnOk result p`: where it is `Ok`, p holds. `IfErr`,
   `OnErr`, `IfSome` and the like, alike.
 - `Rattle.tabled_grid.specs.Grid` is the file crates/tabled_grid/specs/Grid.antt
-  ([ARCHITECTURE](../ARCHITECTURE.md#words-of-contracts)).""".splitlines()
+  ([ARCHITECTURE](ARCHITECTURE.md#words-of-contracts)).""".splitlines()
+
+
+def read(top, crates):
+    """The modules of each crate, and what they offer."""
+    sources = {crate: sources_of(top / "crates" / crate / "src") for crate in crates}
+    return [modules_of(sources[crate], crate) for crate in crates], Exports(sources)
+
+
+def names(top, crates):
+    return index(read(top, crates)[0])
 
 
 def pages(top, crates):
-    """All pages, by their paths below docs/api."""
-    sources = {crate: sources_of(top / "crates" / crate / "src") for crate in crates}
-    exports = Exports(sources)
-    every = [modules_of(sources[crate], crate) for crate in crates]
+    """A page of each module, by its path."""
+    every, exports = read(top, crates)
     files = {module.path(): module.file() for modules in every for module in modules}
-    made = {module.file(): page(module, modules, exports, files) for modules in every for module in modules}
-    return {"README.md": index(every, exports, files), **made}
+    return {module.file(): page(module, modules, exports, files) for modules in every for module in modules}

@@ -1,6 +1,7 @@
 """The scripts of examples/ with what they print and their pictures: as tables of cases for tests, and for pages.
 
-NAME.script prints NAME.table, and `--draw` draws it as NAME.picture. NAME.before.picture has the table before the steps.
+NAME.script prints NAME.table, and `--draw` draws it as NAME.picture; NAME.before.picture has the table before the steps.
+Each NAME.txt of gallery/ has all of that, below lines such as `== prints`.
 """
 
 import re
@@ -42,7 +43,7 @@ def text_of(path):
 
 
 def example(script):
-    """The example of a script."""
+    """The example of a script that stands in a file of its own."""
     made = Example(text_of(script), text_of(script.with_suffix(".table")), "", "")
     if made.is_faulty():
         return made
@@ -50,10 +51,17 @@ def example(script):
     return made._replace(before=text_of(script.with_suffix(".before.picture"))) if made.steps() else made
 
 
+def whole_example(file):
+    """The example that a file of the gallery is."""
+    parts = dict(re.findall(r"^== (.*)\n((?:(?!== ).*\n)*)", text_of(file), re.M))
+    return Example(parts["script"], parts["prints"], parts.get("drawn", ""), parts.get("drawn before its steps", ""))
+
+
 def examples(top):
     """Each example, by name."""
-    scripts = [*top.glob("examples/*.script"), *top.glob("examples/gallery/*.script")]
-    return {it.stem: example(it) for it in sorted(scripts, key=lambda it: it.stem)}
+    found = {it.stem: example(it) for it in top.glob("examples/*.script")}
+    found |= {it.stem: whole_example(it) for it in top.glob("examples/gallery/*.txt")}
+    return dict(sorted(found.items()))
 
 
 def escaped(text):
@@ -134,6 +142,7 @@ def makers(top):
 
 
 def unshown(top, prose):
-    """The scripts of the gallery that pages don't show."""
-    named = set(re.findall(r"^(?:shown|script):(\S+)$", prose, re.M))
-    return [it.stem for it in top.glob("examples/gallery/*.script") if it.stem not in named]
+    """The scripts of the gallery that pages neither show nor lead to."""
+    named = set(re.findall(r"^<!-- (?:shown|script):(\S+) -->$|examples/gallery/(\S+)\.txt\)", prose, re.M))
+    named = {name for both in named for name in both}
+    return [it.stem for it in top.glob("examples/gallery/*.txt") if it.stem not in named]

@@ -1,5 +1,5 @@
-"""What the program tells of its words and faults, as constants of tabled_help: docs/pages/HELP.txt, whose lines such as
-`said:verbs` become what the language's page, docs/pages/SCRIPT.md, and its sources say.
+"""What the program tells of its words and faults, as constants of tabled_help: docs/help.txt, whose lines such as
+`said:verbs` become what the language's page, docs/SCRIPT.md, and its sources say.
 """
 
 import re
@@ -38,7 +38,7 @@ def table_of(text):
 
 def stop_where_other(what, found, wanted):
     if sorted(found) != sorted(wanted):
-        raise SystemExit(f"docs/pages/SCRIPT.md: other {what} than those of the sources: {sorted({*found} ^ {*wanted})}")
+        raise SystemExit(f"docs/SCRIPT.md: other {what} than those of the sources: {sorted({*found} ^ {*wanted})}")
 
 
 def words_of_choices(top, file, *names):
@@ -100,7 +100,7 @@ def faults(top, prose):
 
 def page(top):
     """What `--help` prints."""
-    prose = (top / "docs/pages/SCRIPT.md").read_text()
+    prose = (top / "docs/SCRIPT.md").read_text()
     makers = {
         "letters": lambda: "\n".join(line(*it) for it in table_of(under(prose, "Lines and words"))),
         "verbs": lambda: verbs(top, prose),
@@ -111,7 +111,7 @@ def page(top):
         "ways": lambda: ways(prose),
         "words": lambda: words(top),
     }
-    return re.sub(r"^said:(\w+)$", lambda it: makers[it[1]](), (top / "docs/pages/HELP.txt").read_text(), flags=re.M)
+    return re.sub(r"^said:(\w+)$", lambda it: makers[it[1]](), (top / "docs/help.txt").read_text(), flags=re.M)
 
 
 def entries(text):
@@ -151,12 +151,12 @@ def array(about, name, kind, rows):
 
 def source(top, page_of_script):
     """The source of tabled_help that has all texts."""
-    prose = (top / "docs/pages/SCRIPT.md").read_text()
+    prose = (top / "docs/SCRIPT.md").read_text()
     text = page(top)
     words = text.rpartition("ALL WORDS\n")[2].split()
     return "\n".join(
         [
-            "//! The texts that are told. Made by docs/make from docs/pages/SCRIPT.md and docs/pages/HELP.txt.\n",
+            "//! The texts that are told. Made by docs/make from docs/SCRIPT.md and docs/help.txt.\n",
             "use crate::entry::{Entry, FaultText, Way};\n",
             f"/// What the program can do.\npub const HELP: &str = {literal(text)};\n",
             array("The words of scripts.", "WORDS", "&str", [f"    {literal(it)},\n" for it in words]),

@@ -1,4 +1,4 @@
-"""What pages quote of the repository: lines such as `code:PATH NAME ..` become what they name.
+"""What pages quote of the repository: between a line such as `<!-- code:PATH NAME .. -->` and `<!-- end -->` stands what it names.
 
     script:NAME, printed:NAME   a script of examples/, and what it prints
     drawn:NAME                  its picture
@@ -10,9 +10,6 @@
     part:PATH TRAIT             what a file says of a type as a trait
     definition:PATH NAME        a definition of a file of specs/
     answer:PATH NAME            an answer of a file of proofs/
-    own:CRATE NAME              the lines that make a program one's own, under a name
-    added:CRATE NAME OF         the lines that put a crate below it, where it is made of the program OF
-    taken:CRATE ..              the lines that take crates, with all that these use
     crates:all                  a table of the crates, and what each uses
     specs:CRATE FILE ..         a line of files of a crate's specs/, and what each is about
 Where a line names a file of crates/ and what does something there, as in - `NAME/src/x.rt`: `f`, `g`, these have to be there.
@@ -22,9 +19,8 @@ import re
 from functools import cache
 
 import gallery
-from contracts import function_text, items, module_words, parts_of, public_names, sources_of, used_by
-from phrases import DIFFERS, OF_THIS_PROJECT
-from specs import definitions_of, first_sentence, places
+from contracts import function_text, items, module_words, sources_of, used_by
+from specs import definitions_of, first_sentence
 
 
 def crates_of(top):
@@ -114,58 +110,6 @@ def code(top, path, *names):
     return rust("\n\n".join(it for it in blocks if it))
 
 
-def below(top, crate):
-    """The crates of the repository that a crate uses, lowest first, with all that these use."""
-    crates = crates_of(top)
-    needed = {crate}
-    for name in reversed(crates):
-        if name in needed:
-            needed |= set(crates[name])
-    return [name for name in crates if name in needed - {crate}]
-
-
-PREFIX = "tabled_"
-
-
-def taken(crates):
-    """The line that takes crates from this folder."""
-    names = [it.removeprefix(PREFIX) for it in crates]
-    listed = "{" + ",".join(names) + "}" if len(names) > 1 else names[0]
-    return f'tar -C "$FEHAKIMU" --exclude=out -c crates/{PREFIX}{listed} | tar -x'
-
-
-def listed(crates, lines):
-    """The lines of crates.txt for crates."""
-    return [f"{it}: {' '.join(lines[it])}".rstrip() for it in crates]
-
-
-def own(top, crate, name):
-    """The lines that make the program of a crate one's own, under a name."""
-    crates = crates_of(top)
-    libraries = [it for it in below(top, crate) if it in crates]
-    lines = [taken(libraries), f"mkdir -p crates/{name}/src", f'cp "$FEHAKIMU"/crates/{crate}/src/main.rt crates/{name}/src']
-    lines += ["cat > crates.txt << END", *listed([*libraries, name], {**crates, name: crates[crate]}), "END"]
-    lines += [f"cd crates/{name}", f'rt try < "$FEHAKIMU"/crates/{crate}/stdin']
-    return fenced("sh", "\n".join(lines))
-
-
-def added(top, crate, name, of):
-    """The lines that put a crate below the program that `own` makes of another one, where all that it uses is there."""
-    crates = crates_of(top)
-    lines = ["cd ../..", taken([crate]), f"sed -i '/^{name}:/d' crates.txt"]
-    lines += ["cat >> crates.txt << END", *listed([crate, name], {**crates, name: [crate, *crates[of]]}), "END"]
-    lines += [f"cd crates/{name}", f'rt try < "$FEHAKIMU"/crates/{of}/stdin']
-    return fenced("sh", "\n".join(lines))
-
-
-def all_taken(top, *wanted):
-    """The lines that take crates, with all of the repository that these use."""
-    crates = crates_of(top)
-    needed = {*wanted}.union(*(below(top, it) for it in wanted))
-    found = [it for it in crates if it in needed]
-    return fenced("sh", "\n".join([taken(found), "cat > crates.txt << END", *listed(found, crates), "END"]))
-
-
 def root_of(top, crate):
     folder = top / "crates" / crate / "src"
     return next(it for it in (folder / "lib.rt", folder / "main.rt") if it.is_file())
@@ -211,8 +155,11 @@ def stop_at_missing(top, prose):
                 raise SystemExit(f"docs/make: no {name} in {path} where a page names it")
 
 
-def quoted(top, prose):
-    """Prose with what its lines name."""
+MARKED = re.compile(r"^<!-- (\w+):(\S.*?) -->\n.*?^<!-- end -->$", re.M | re.S)
+
+
+def quoted(top, page):
+    """A page with what its marks name between them."""
     makers = {
         "whole": lambda path: whole(top, path),
         "code": lambda *words: code(top, *words),
@@ -220,72 +167,9 @@ def quoted(top, prose):
         "part": lambda *words: part(top, *words),
         "definition": lambda *words: definition(top, *words),
         "answer": lambda *words: answer(top, *words),
-        "own": lambda *words: own(top, *words),
-        "added": lambda *words: added(top, *words),
-        "taken": lambda *words: all_taken(top, *words),
         "crates": lambda word: crate_table(top, word),
         "specs": lambda *words: specs_line(top, *words),
         **gallery.makers(top),
     }
-    stop_at_missing(top, prose)
-    line = re.compile(rf"^({'|'.join(makers)}):(\S.*)$", re.M)
-    return line.sub(lambda it: makers[it[1]](*it[2].split()), prose)
-
-
-def shortened(line):
-    """A line of a contract, with `S` for what `self` is, or points to, at the call, and `S'` at the return."""
-    if not re.match(r"\s+(requires|ensures|ghost)\b", line):
-        return line
-    line = re.sub(r"\bself\.new\b", "S'", line)
-    return re.sub(r"\bself(\.(old|now))?\b", "S", line)
-
-
-def selected(told, name):
-    """The lines of a name, with the text of its source: what it is, a member for `TRAIT::MEMBER`, or what a type means
-    for `TYPE as TRAIT`.
-    """
-    for text, part in told:
-        if part.name == name:
-            return text, part.lines
-        if part.kind == "trait" and name.startswith(part.name + "::"):
-            return text, member(part, name)
-    raise SystemExit(f"docs/make: no {name} where docs/calling names it")
-
-
-def member(part, name):
-    """A member of a trait, without its words."""
-    wanted, found, inside = name.partition("::")[2], [], False
-    for line in part.lines[1:]:
-        if re.match(r"  \S", line):
-            inside = bool(re.match(rf"  (fn|ghost|type) {wanted}\b", line))
-        if inside:
-            found.append(line[2:])
-    if not found:
-        raise SystemExit(f"docs/make: no {name} where docs/calling names it")
-    return [found[0].replace(f" {wanted}", f" {name}", 1), *found[1:]]
-
-
-def introduced(prose, is_own):
-    """The prose of docs/calling, with a line before its list."""
-    before, dash, listed = prose.strip().partition("\n\n- ")
-    said = OF_THIS_PROJECT if is_own else DIFFERS
-    return " ".join([before, said]) + dash + listed
-
-
-def calling(top, crate):
-    """A crate's CALLING.md: the prose of docs/calling, and the caller and the contracts that its `.calls` names."""
-    prose = (top / "docs/calling" / f"{crate}.md").read_text()
-    caller, *names = (top / "docs/calling" / f"{crate}.calls").read_text().splitlines()
-    sources = sources_of(top / "crates" / crate / "src")
-    public = public_names(sources)
-    told = [(source.text, part) for source in sources for part in parts_of(source.text, public)]
-    is_own = "Ported from" not in "".join(source.text for source in sources)
-    out = [f"# Calling `{crate}`", "", *module_words(sources[0].text), "", quoted(top, introduced(prose, is_own)), ""]
-    out += ["## A caller", "", f"From `{caller.split()[0]}`, where it is proved:", "", code(top, *caller.split()), ""]
-    out += ["## Contracts", "", "These are quoted from `src/`: `S` is what `self` is, or points to, at the call, and `S'`"]
-    out += [f"at the return. [docs/api](../../docs/api/README.md#{crate}) has all calls and the paths to import.", ""]
-    chosen = [selected(told, name) for name in names]
-    lines = [it for _, lines in chosen for it in lines if not it.lstrip().startswith("//")]
-    out += ["```text", *map(shortened, lines), "```"]
-    words = [*places(crate, crates_of(top), chosen)]
-    return "\n".join([*out, *["", "Their words stand in", "", *words] * bool(words)]) + "\n"
+    stop_at_missing(top, page)
+    return MARKED.sub(lambda it: f"<!-- {it[1]}:{it[2]} -->\n{makers[it[1]](*it[2].split())}\n<!-- end -->", page)

@@ -1,12 +1,9 @@
-"""The definitions of crates/*/specs/: what each is in words, and in which files the words of clauses stand."""
+"""The definitions of crates/*/specs/: what each is in words."""
 
 import re
 import sys
 
-from contracts import CLAUSE_LINE, ghost_uses, needed_imports
-
 DEFINED = re.compile(r"(?:(?:abbrev|unfoldable|opaque) )?pub (?:(?:data|record|abbrev) )?([^\s:({]+)")
-IMPORTED = re.compile(r"ghost use Rattle\.(\w+)\.specs\.(\w+)$")
 
 
 class Definition:
@@ -48,28 +45,3 @@ def first_sentence(file):
     """What a file of specs/ is about, by its first line."""
     said = file.read_text().partition("\n")[0].removeprefix("-- ").rstrip(".")
     return said.partition(". ")[0]
-
-
-def shown(name):
-    there, _, here = name.partition(" as ")
-    return f"`{here}` (there `{there}`)" if here else f"`{there}`"
-
-
-def words_of(told):
-    """The words of clauses by crate and file of specs/: the lines of contracts come with the text of their source."""
-    found = {}
-    for text, lines in told:
-        clauses = "\n".join(it for it in lines if CLAUSE_LINE.match(it))
-        for _, path, brace, names in needed_imports(ghost_uses(text), clauses, {}):
-            place = IMPORTED.match(path)
-            if brace and place and place[1] != "std":
-                found.setdefault((place[1], place[2]), set()).update(names)
-    return found
-
-
-def places(crate, crates, told):
-    """A line for each file of specs/ that the clauses of a crate's contracts take words from, its own first."""
-    order = [crate, *(it for it in crates if it != crate)]
-    for (of, file), names in sorted(words_of(told).items(), key=lambda it: (order.index(it[0][0]), it[0][1])):
-        link = f"[{file}](specs/{file}.antt)" if of == crate else f"[{file} of {of}](../{of}/specs/{file}.antt)"
-        yield f"- {link}: " + ", ".join(map(shown, sorted(names)))

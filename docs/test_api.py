@@ -3,7 +3,7 @@
 import tempfile
 from pathlib import Path
 
-from api import pages
+from api import names, pages
 
 LOW = {
     "lib.rt": "//! Grids.\n\npub mod config;\npub mod rows;\n",
@@ -43,15 +43,14 @@ def made():
                 file = Path(folder) / "crates" / crate / "src" / name
                 file.parent.mkdir(parents=True, exist_ok=True)
                 file.write_text(text)
-        return pages(Path(folder), ["low", "high"])
+        return {"API.md": names(Path(folder), ["low", "high"]), **pages(Path(folder), ["low", "high"])}
 
 
 def lists_calls_below_their_type():
-    index = made()["README.md"]
     return """\
-- [`Spans`](low/config.md#spans): Merged cells.
-  - [`Spans::fits`](low/config.md#spansfits): Says whether all fit.
-""" in index
+- [`Spans`](../crates/low/src/config/spans.rt#L4): Merged cells.
+  - [`Spans::fits`](../crates/low/src/config/fitting.rt#L7): Says whether all fit.
+""" in made()["API.md"]
 
 
 def tells_what_a_type_means_below_it():
@@ -79,12 +78,11 @@ def names_the_paths_that_contracts_import():
 def lists_what_is_offered_again_where_it_is_used():
     offered = "Re-exports of [`low`](low.md): [`config`](low/config.md), [`rows`](low/rows.md)."
     renamed = "Re-exports of [`low::config`](../low/config.md): [`Way`](../low/config.md#offset), there `Offset`."
-    index = made()["README.md"].partition("## `high`")[2]
-    return f"### [`high`](high.md)\n\n- {offered}" in index and renamed in made()["high/split.md"]
+    return offered in made()["high.md"] and renamed in made()["high/split.md"]
 
 
 def lists_a_module_without_names_of_its_own():
-    return "### [`low::rows`](low/rows.md)\n\n- `Vec<T>`: a store, by `Records`, `Grows`\n" in made()["README.md"]
+    return "### `low::rows`\n\n- `Vec<T>`: a store, by `Records`, `Grows`\n" in made()["API.md"]
 
 
 TESTS = [

@@ -25,7 +25,7 @@ def is_refused(what, prose):
 
 
 def refuses_other_words_than_those_of_the_sources():
-    page = (TOP / "docs/pages/SCRIPT.md").read_text()
+    page = (TOP / "docs/SCRIPT.md").read_text()
     lacking = is_refused(verbs, page.replace("### `vmerge`", "### vmerge")) and is_refused(faults, page.replace("### Fault 8", "### 8"))
     return lacking and not is_refused(verbs, page) and not is_refused(faults, page)
 

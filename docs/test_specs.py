@@ -3,7 +3,7 @@
 import tempfile
 from pathlib import Path
 
-from specs import definitions_of, first_sentence, places
+from specs import definitions_of, first_sentence
 
 LOW = """\
 -- Grids. Their rows are equally long.
@@ -18,15 +18,6 @@ pub record Grid (A : Type 0) : Type 0 where
 abbrev pub ◌⊏◌ : ℕ → ℕ → Type 0
 a ⊏ b = a < b
 """
-SOURCE = """\
-ghost use Rattle.std.specs.Prelude.{◌≡◌};
-ghost use Rattle.low.specs.Low.{Grid, ◌⊏◌ as ◌⊐◌, unused};
-
-impl Grid {
-    ghost use Rattle.high.specs.High.{grows};
-}
-"""
-LINES = ["fn grow(g: Grid)", "  requires: a ⊐ b", "  ensures: grows g.old g.new ≡ Unit {0}"]
 
 
 def read(what, text):
@@ -57,12 +48,7 @@ def takes_the_first_sentence():
     return read(first_sentence, LOW) == "Grids"
 
 
-def names_the_files_that_clauses_take_words_from():
-    return [*places("high", ["low", "high"], [(SOURCE, LINES)])] == [
-        "- [High](specs/High.antt): `grows`", "- [Low of low](../low/specs/Low.antt): `◌⊐◌` (there `◌⊏◌`)"]
-
-
 TESTS = [
     tells_definitions_with_their_words, takes_a_definition_whole, stops_where_no_words_say_what_is_defined,
-    takes_the_first_sentence, names_the_files_that_clauses_take_words_from,
+    takes_the_first_sentence,
 ]

@@ -1,4 +1,4 @@
-//! The texts that are told. Made by docs/make from docs/pages/SCRIPT.md and docs/pages/HELP.txt.
+//! The texts that are told. Made by docs/make from docs/SCRIPT.md and docs/help.txt.
 
 use crate::entry::{Entry, FaultText, Way};
 
@@ -34,7 +34,7 @@ pub const HELP: &str = "Makes a table from a script, changes and prints it.
 
 A script comes in by standard input: lines of words, with single tabs between them. The table goes out by standard
 output, as a script that makes it: its shape, its rows and its merged cells.
-docs/SCRIPT.md says more of each word, and docs/GALLERY.md has a picture for each.
+docs/SCRIPT.md says more of each word, and docs/GALLERY.md leads to a picture for each.
 
 Behind the options each argument is a word of a step, as it is, with tabs, newlines and backslashes. The word then
 stands between two steps. With steps a terminal as standard input is an empty script.
@@ -583,6 +583,7 @@ pub const FAULTS: [FaultText; 8] = [
 gives
 
     line 2: fault 1
+<!-- end -->
 ",
     },
     FaultText {
@@ -595,6 +596,7 @@ gives
 gives
 
     line 2: fault 2
+<!-- end -->
 ",
     },
     FaultText {
@@ -607,6 +609,7 @@ gives
 gives
 
     line 2: fault 3
+<!-- end -->
 ",
     },
     FaultText {
@@ -619,6 +622,7 @@ gives
 gives
 
     line 2: fault 4
+<!-- end -->
 ",
     },
     FaultText {
@@ -631,6 +635,7 @@ gives
 gives
 
     line 2: fault 5
+<!-- end -->
 ",
     },
     FaultText {
@@ -644,6 +649,7 @@ gives
 gives
 
     line 3: fault 6
+<!-- end -->
 ",
     },
     FaultText {
@@ -657,6 +663,7 @@ gives
 gives
 
     line 3: fault 7
+<!-- end -->
 ",
     },
     FaultText {
@@ -671,6 +678,7 @@ gives
 gives
 
     line 1: fault 8
+<!-- end -->
 ",
     },
 ];
