@@ -128,6 +128,7 @@ def asked_elsewhere(prose):
 
 def fault_texts(page):
     """The title of each fault, when it comes, its cure and its example."""
+    page = re.sub(r"^<!-- .* -->\n", "", page, flags=re.M)
     for part in re.findall(r"^### Fault \d: (.*?)(?=^##|\Z)", page, re.M | re.S):
         title, when, cure = part.split("\n\n")[:3]
         example = re.search(r"^    .*", part, re.M | re.S)[0]

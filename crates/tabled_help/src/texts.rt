@@ -583,7 +583,6 @@ pub const FAULTS: [FaultText; 8] = [
 gives
 
     line 2: fault 1
-<!-- end -->
 ",
     },
     FaultText {
@@ -596,7 +595,6 @@ gives
 gives
 
     line 2: fault 2
-<!-- end -->
 ",
     },
     FaultText {
@@ -609,7 +607,6 @@ gives
 gives
 
     line 2: fault 3
-<!-- end -->
 ",
     },
     FaultText {
@@ -622,7 +619,6 @@ gives
 gives
 
     line 2: fault 4
-<!-- end -->
 ",
     },
     FaultText {
@@ -635,7 +631,6 @@ gives
 gives
 
     line 2: fault 5
-<!-- end -->
 ",
     },
     FaultText {
@@ -649,7 +644,6 @@ gives
 gives
 
     line 3: fault 6
-<!-- end -->
 ",
     },
     FaultText {
@@ -663,7 +657,6 @@ gives
 gives
 
     line 3: fault 7
-<!-- end -->
 ",
     },
     FaultText {
@@ -678,7 +671,6 @@ gives
 gives
 
     line 1: fault 8
-<!-- end -->
 ",
     },
 ];
