@@ -38,6 +38,10 @@ pub fn faulty_word_of_line(alloc: Global, bytes: &[u8]) -> Result<usize, AllocEr
     let Some(line) = Parts::new(bytes, b'\n').next() else {
         return Ok(0);
     };
+    // A part has no separator in it, which is asked here and not proved.
+    if line.contains(&b'\n') {
+        return Ok(0);
+    }
     match escaped_texts(alloc, line)? {
         Some(words) => faulty_word(alloc, &words),
         None => Ok(0),

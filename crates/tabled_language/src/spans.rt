@@ -1,6 +1,7 @@
 //! What `span` lines say, and the merged cells that their anchors make.
 
 ghost use Rattle.std.specs.Prelude.{false, true, ◌≡◌, IfOk};
+ghost use Rattle.tabled_grid.specs.Fitting.{all_fit};
 ghost use Rattle.tabled_grid.specs.Spans.{AreAnchors, from_rectangles, map_of};
 ghost use Rattle.tabled_language.specs.Placed.{AreSpans, IsFirstMisfit};
 
