@@ -1,0 +1,14 @@
+pub mod Space
+pub mod Numbers
+pub mod Strings
+pub mod Grammar
+pub mod WholeValues
+pub mod Lists
+pub mod Records
+pub mod Places
+pub mod Reading
+pub mod Writing
+pub mod Writes
+pub mod Laws
+pub mod Tables
+pub mod Texts

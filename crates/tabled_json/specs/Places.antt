@@ -1,0 +1,39 @@
+-- Where it shows that bytes are no records, and why, as it is told.
+use Rattle.std.specs.Fmt.{decimal}
+use Rattle.std.specs.List.{count_by}
+use Rattle.std.specs.Prelude.{◌≡◌, ◌+◌, ◌-◌, ◌==◌, ℕ, List, [], ◌∷◌, ◌++◌, codes, if◌then◌else◌, length, take}
+use Rattle.tabled_json.specs.declared.fault.Fault.{Fault}
+use Rattle.tabled_json.specs.declared.fault.Fault.TheVariants.{BadEscape, BadNumber, BadString, Ended, NotUtf8, Unexpected}
+use Rattle.tabled_json.specs.declared.fault.ReadError.{ReadError}
+use Rattle.tabled_json.specs.declared.fault.ReadError.TheVariants.{Faulty, OutOfMemory}
+
+-- in which line of bytes so many are left
+abbrev pub line_at : List ℕ → ℕ → ℕ
+line_at bytes left = 1 + count_by (λ b. b == 10) (take (length bytes - left) bytes)
+
+-- the column behind bytes that begin in a column
+abbrev pub column_behind : ℕ → List ℕ → ℕ
+column_behind column [] = column
+column_behind column (b ∷ bytes) = column_behind (if b == 10 then 1 else column + 1) bytes
+
+-- in which column of its line the byte is from which on so many are left
+abbrev pub column_at : List ℕ → ℕ → ℕ
+column_at bytes left = column_behind 1 (take (length bytes - left) bytes)
+
+-- a line and a column are those of one place in bytes
+abbrev pub IsPlace : List ℕ → ℕ → ℕ → Type 0
+IsPlace bytes line column = (left : ℕ) × (line ≡ line_at bytes left) × (column ≡ column_at bytes left)
+
+-- what is told of a fault
+abbrev pub message_of : Fault → List ℕ
+message_of NotUtf8 = codes "a text is not UTF-8"
+message_of Ended = codes "the end comes too early"
+message_of Unexpected = codes "something else is wanted here"
+message_of BadNumber = codes "a number is badly written"
+message_of BadString = codes "a string is not closed, or holds a control character"
+message_of BadEscape = codes "a backslash has no meaning"
+
+-- why bytes were not read, as it is told
+abbrev pub text_of_error : ReadError → List ℕ
+text_of_error (Faulty line column fault) = codes "line " ++ decimal line ++ codes ", column " ++ decimal column ++ codes ": " ++ message_of fault
+text_of_error OutOfMemory = codes "out of memory"

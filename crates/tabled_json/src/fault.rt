@@ -1,0 +1,166 @@
+//! What is wrong with bytes that are no records, and why reading ends early.
+
+use std::alloc::{AllocError, AllocFailed};
+use std::error::Error;
+use std::{fmt, io};
+
+/// What is wrong with bytes that are no records.
+///
+/// Of this project.
+#[derive(Clone, Copy, Debug, PartialEq, Eq)]
+pub enum Fault {
+    /// A text isn't UTF-8.
+    NotUtf8,
+    /// The bytes end too early.
+    Ended,
+    /// Something else is wanted here.
+    Unexpected,
+    /// It begins like a number, and is none.
+    BadNumber,
+    /// A string isn't closed, or holds a control character.
+    BadString,
+    /// A backslash with no meaning, or half of a surrogate pair.
+    BadEscape,
+}
+
+impl fmt::Display for Fault {
+    ghost use Rattle.std.specs.Prelude.{Some};
+    ghost use Rattle.tabled_json.specs.Places.{message_of};
+
+    ghost output = { λ fault. Some (message_of fault) };
+
+    fn fmt<W: fmt::Write>(&self, f: &mut fmt::Formatter<W>) -> fmt::Result {
+        match self {
+            Fault::NotUtf8 => write!(f, "a text is not UTF-8"),
+            Fault::Ended => write!(f, "the end comes too early"),
+            Fault::Unexpected => write!(f, "something else is wanted here"),
+            Fault::BadNumber => write!(f, "a number is badly written"),
+            Fault::BadString => write!(f, "a string is not closed, or holds a control character"),
+            Fault::BadEscape => write!(f, "a backslash has no meaning"),
+        }
+    }
+}
+
+/// Why bytes were not read.
+///
+/// Of this project.
+#[derive(Clone, Copy, Debug, PartialEq, Eq)]
+pub enum ReadError {
+    /// They are no records: the line and its byte, both counted from 1, where this was seen, and what is wrong there.
+    Faulty {
+        line: usize,
+        column: usize,
+        fault: Fault,
+    },
+    /// Memory was refused.
+    OutOfMemory,
+}
+
+impl fmt::Display for ReadError {
+    ghost use Rattle.std.specs.Prelude.{Some};
+    ghost use Rattle.tabled_json.specs.Places.{text_of_error};
+
+    ghost output = { λ error. Some (text_of_error error) };
+
+    fn fmt<W: fmt::Write>(&self, f: &mut fmt::Formatter<W>) -> fmt::Result {
+        match self {
+            ReadError::Faulty {
+                line,
+                column,
+                fault,
+            } => write!(f, "line {line}, column {column}: {fault}"),
+            ReadError::OutOfMemory => write!(f, "out of memory"),
+        }
+    }
+}
+
+impl Error for ReadError {}
+
+impl From<AllocError> for ReadError {
+    ghost use Rattle.std.specs.Prelude.{◌≡◌};
+    ghost use Rattle.tabled_json.specs.declared.fault.ReadError.TheVariants.{OutOfMemory};
+
+    ghost from_gives = { λ _ e. e ≡ OutOfMemory };
+
+    fn from(_refused: AllocError) -> ReadError {
+        ReadError::OutOfMemory
+    }
+}
+
+/// Why rows were not written.
+///
+/// Of this project.
+#[derive(Debug, Drop)]
+pub enum WriteError {
+    /// Memory was refused, and nothing was written.
+    OutOfMemory,
+    /// Two keys are equal, those of these columns, counted from 0, and nothing was written.
+    EqualKeys { first: usize, second: usize },
+    /// A row, counted from 0 with the row of keys, has more texts than there are keys, and nothing was written.
+    LongRow { row: usize },
+    /// The writer failed, and got no more.
+    Failed(io::Error),
+}
+
+impl From<AllocError> for WriteError {
+    ghost use Rattle.std.specs.Prelude.{◌≡◌};
+    ghost use Rattle.tabled_json.specs.declared.fault.WriteError.TheVariants.{OutOfMemory};
+
+    ghost from_gives = { λ _ e. e ≡ OutOfMemory };
+
+    fn from(_refused: AllocError) -> WriteError {
+        WriteError::OutOfMemory
+    }
+}
+
+impl From<WriteError> for io::Error {
+    ghost use Rattle.tabled_json.specs.Writes.{IsToldBy};
+
+    ghost from_gives = { IsToldBy };
+
+    fn from(error: WriteError) -> io::Error {
+        match error {
+            WriteError::OutOfMemory => io::Error::from(AllocError),
+            WriteError::EqualKeys { .. } => io::Error::from(io::ErrorKind::InvalidInput),
+            WriteError::LongRow { .. } => io::Error::from(io::ErrorKind::InvalidInput),
+            WriteError::Failed(error) => error,
+        }
+    }
+}
+
+/// Why a part of bytes was not read: a fault, and how many bytes are left where it shows.
+#[derive(Clone, Copy, Debug, PartialEq, Eq)]
+pub(crate) enum Unread {
+    Faulty(Fault, usize),
+    OutOfMemory,
+}
+
+impl From<AllocError> for Unread {
+    ghost use Rattle.std.specs.Prelude.{◌≡◌};
+    ghost use Rattle.tabled_json.specs.declared.fault.Unread.TheVariants.{OutOfMemory};
+
+    ghost from_gives = { λ _ e. e ≡ OutOfMemory };
+
+    fn from(_refused: AllocError) -> Unread {
+        Unread::OutOfMemory
+    }
+}
+
+impl<T: Drop> From<AllocFailed<T>> for Unread {
+    ghost use Rattle.std.specs.Prelude.{◌≡◌};
+    ghost use Rattle.tabled_json.specs.declared.fault.Unread.TheVariants.{OutOfMemory};
+
+    ghost from_gives = { λ _ e. e ≡ OutOfMemory };
+
+    fn from(_refused: AllocFailed<T>) -> Unread {
+        Unread::OutOfMemory
+    }
+}
+
+/// What is told where something else is wanted.
+pub(crate) fn unexpected(bytes: &[u8]) -> Unread {
+    if bytes.is_empty() {
+        return Unread::Faulty(Fault::Ended, 0);
+    }
+    Unread::Faulty(Fault::Unexpected, bytes.len())
+}

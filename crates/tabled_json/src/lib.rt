@@ -1,0 +1,28 @@
+//! Records as JSON, read as a table of texts, and written.
+#![tactic(auto)]
+
+mod fault;
+mod form;
+mod keyed;
+mod keys;
+pub mod laws;
+mod list;
+mod member;
+mod number;
+mod record;
+mod room;
+mod rows;
+mod scalar;
+mod space;
+mod string;
+mod tabling;
+mod value;
+mod writing;
+
+pub use fault::{Fault, ReadError, WriteError};
+pub use form::{Layout, Values};
+pub use member::Member;
+pub use record::read;
+pub use room::{Room, Spare};
+pub use tabling::table;
+pub use writing::{write, write_records};

@@ -1,0 +1,156 @@
+//! Values of any depth, passed over.
+
+ghost use Rattle.std.specs.Prelude.{◌≡◌, ◌∷◌, ◌<◌, ◌≤◌, IfOk, IfSome, MatchOption, MatchResult, length};
+ghost use Rattle.tabled_json.specs.Grammar.{ItemAt, KeyAt, ValueAt, closing, opening};
+ghost use Rattle.tabled_json.specs.Reading.{NoneAt, WasFaulty};
+ghost use Rattle.tabled_json.specs.WholeValues.{BegunAt, EndedAt, NoEndAt, NoItemAt, NoValueAt, OpensNothing, begun_left, ended_left};
+
+use crate::fault::{Unread, unexpected};
+use crate::scalar::scalar;
+use crate::space::{behind_byte, behind_space};
+use crate::string::content;
+use std::alloc::Global;
+
+/// What holds others.
+#[derive(Clone, Copy, Debug, PartialEq, Eq)]
+pub(crate) enum Kind {
+    Array,
+    Object,
+}
+
+/// The byte that closes it.
+fn closing(kind: Kind) -> u8
+    ensures { result ≡ closing kind }
+{
+    match kind {
+        Kind::Array => 93,
+        Kind::Object => 125,
+    }
+}
+
+/// What bytes open, if they do, and the bytes behind the bracket.
+pub(crate) fn opened(bytes: &[u8]) -> Option<(Kind, &[u8])>
+    ensures is { MatchOption result (OpensNothing bytes.now) (λ r. bytes.now ≡ opening r.0 ∷ r.1.now) }
+    ensures shorter { IfSome result (λ r. length r.1.now < length bytes.now) }
+{
+    if let Some(inner) = behind_byte(91, bytes) {
+        return Some((Kind::Array, inner));
+    }
+    match behind_byte(123, bytes) {
+        Some(inner) => Some((Kind::Object, inner)),
+        None => None,
+    }
+}
+
+/// Puts the key at the front into `text`. The bytes at its value.
+pub(crate) fn key<'a>(bytes: &'a [u8], text: &mut Vec<u8>) -> Result<&'a [u8], Unread>
+    ensures read { MatchResult result (λ value. KeyAt bytes.now text.new.items value.now) (WasFaulty (NoneAt KeyAt bytes.now)) }
+    ensures shorter { IfOk result (λ value. length value.now < length bytes.now) }
+{
+    let Some(behind) = behind_byte(34, bytes) else {
+        return Err(unexpected(bytes));
+    };
+    let ended = content(behind, text)?;
+    let after = behind_space(ended);
+    match behind_byte(58, after) {
+        Some(next) => Ok(behind_space(next)),
+        None => Err(unexpected(after)),
+    }
+}
+
+/// The bytes at the value of an item.
+fn item<'a>(kind: Kind, bytes: &'a [u8], scratch: &mut Vec<u8>) -> Result<&'a [u8], Unread>
+    ensures read { MatchResult result (λ value. ItemAt kind bytes.now value.now) (WasFaulty (NoItemAt kind bytes.now)) }
+    ensures shorter { IfOk result (λ value. length value.now ≤ length bytes.now) }
+{
+    match kind {
+        Kind::Array => Ok(bytes),
+        Kind::Object => key(bytes, scratch),
+    }
+}
+
+/// What is behind the front of a value: the bytes behind it, or those at the value of its first item.
+enum Begun<'a> {
+    Whole(&'a [u8]),
+    Inside(Kind, &'a [u8]),
+}
+
+/// What is behind the front of a value.
+fn begin<'a>(bytes: &'a [u8], scratch: &mut Vec<u8>) -> Result<Begun<'a>, Unread>
+    ensures read { MatchResult result (BegunAt bytes.now) (WasFaulty (NoValueAt bytes.now)) }
+    ensures shorter { IfOk result (λ begun. begun_left begun < length bytes.now) }
+{
+    let Some((kind, inner)) = opened(bytes) else {
+        let after = scalar(bytes, scratch)?;
+        return Ok(Begun::Whole(after));
+    };
+    let first = behind_space(inner);
+    if let Some(after) = behind_byte(closing(kind), first) {
+        return Ok(Begun::Whole(after));
+    }
+    let value = item(kind, first, scratch)?;
+    Ok(Begun::Inside(kind, value))
+}
+
+/// What is behind an item: the bytes behind what holds it, or those at the value of the next item.
+enum Ended<'a> {
+    Closed(&'a [u8]),
+    Next(&'a [u8]),
+}
+
+/// What is behind an item.
+fn end<'a>(kind: Kind, behind: &'a [u8], scratch: &mut Vec<u8>) -> Result<Ended<'a>, Unread>
+    ensures read { MatchResult result (EndedAt kind behind.now) (WasFaulty (NoEndAt kind behind.now)) }
+    ensures shorter { IfOk result (λ ended. ended_left ended < length behind.now) }
+{
+    let bytes = behind_space(behind);
+    if let Some(after) = behind_byte(closing(kind), bytes) {
+        return Ok(Ended::Closed(after));
+    }
+    let Some(comma) = behind_byte(44, bytes) else {
+        return Err(unexpected(bytes));
+    };
+    let next = behind_space(comma);
+    let value = item(kind, next, scratch)?;
+    Ok(Ended::Next(value))
+}
+
+/// The bytes behind the value at the front.
+pub(crate) fn behind_value<'a>(
+    alloc: Global,
+    bytes: &'a [u8],
+    scratch: &mut Vec<u8>,
+) -> Result<&'a [u8], Unread>
+    ensures read { MatchResult result (λ after. ValueAt bytes.now after.now) (WasFaulty (NoValueAt bytes.now)) }
+    ensures shorter { IfOk result (λ after. length after.now ≤ length bytes.now) }
+{
+    let mut within: Vec<Kind> = Vec::new(alloc);
+    let mut is_behind = false;
+    let mut rest = bytes;
+    'values: loop {
+        if is_behind {
+            let Some(kind) = within.pop() else {
+                return Ok(rest);
+            };
+            match end(kind, rest, scratch)? {
+                Ended::Closed(after) => rest = after,
+                Ended::Next(value) => {
+                    within.push(kind)?;
+                    rest = value;
+                    is_behind = false;
+                }
+            }
+        } else {
+            match begin(rest, scratch)? {
+                Begun::Whole(after) => {
+                    rest = after;
+                    is_behind = true;
+                }
+                Begun::Inside(kind, value) => {
+                    within.push(kind)?;
+                    rest = value;
+                }
+            }
+        }
+    }
+}
