@@ -1,3 +1,5 @@
+pub mod Attributes
 pub mod Grids
 pub mod Owned
+pub mod Sent
 pub mod Within

@@ -6,9 +6,12 @@ use Rattle.tabled_grid.specs.Spans.{SpanMap, rectangles, sized}
 use Rattle.tabled_grid.specs.declared.config.rectangle.Rectangle.{Rectangle}
 use Rattle.tabled_html_reading.specs.Areas.{Area, IsOutside}
 use Rattle.tabled_html_reading.specs.Building.{parsed}
-use Rattle.tabled_html.specs.Elements.{td, text_of_cell}
+use Rattle.tabled_html.specs.Elements.{element_at, groups_of, table}
+use Rattle.tabled_html.specs.Looks.{Look}
+use Rattle.std.specs.Option.{option_map}
+use Rattle.tabled_html_reading.specs.Elements.{Element}
 use Rattle.tabled_html_reading.specs.Escaping.{shown}
-use Rattle.tabled_html_reading.specs.Forming.{Cell, Forming, Td, any_below, cells_at, forming_a_table, lacks_anchors}
+use Rattle.tabled_html_reading.specs.Forming.{Cell, Forming, any_below, cells_at, forming_a_table, lacks_anchors}
 use Rattle.tabled_html.specs.Owners.{owner_in}
 use Rattle.tabled_html.specs.declared.fault.WriteError.{WriteError}
 use Rattle.tabled_html.specs.declared.fault.WriteError.TheVariants.{Failed, OutOfMemory}
@@ -22,12 +25,12 @@ abbrev pub own_area : SpanMap → ℕ → ℕ → Area
 own_area m x y = area_of (owner_in (rectangles m) (place y x))
 
 -- the element of slots that are one cell
-abbrev pub element_of : Grid (List ℕ) → Area → Td
-element_of g a = td (sized a.height a.width) (text_of_cell g (place a.y a.x))
+abbrev pub element_of : Grid (List ℕ) → Look → Area → Element
+element_of g look a = element_at g look (place a.y a.x) (sized a.height a.width)
 
 -- the cell of an owner, anchored at its first place
-abbrev pub cell_of : Grid (List ℕ) → Rectangle → Cell
-cell_of g o = record { x = o.first.col; y = o.first.row; element = td o.size (text_of_cell g o.first) }
+abbrev pub cell_of : Grid (List ℕ) → Look → Rectangle → Cell
+cell_of g look o = record { x = o.first.col; y = o.first.row; element = element_at g look o.first o.size }
 
 -- an owner begins at its own place
 abbrev pub begins_at : SpanMap → ℕ → ℕ → Bool
@@ -41,19 +44,22 @@ lacks_owners g m =
 
 -- a formed table is the grid: it has as many columns and rows, no two cells share a slot, and each slot has the one cell
 -- of its owner, and no other slot has one; the table model error of a row or column without anchored cells is that of one in which no owner begins
-pub record IsFormed (g : Grid (List ℕ)) (m : SpanMap) (f : Forming) : Type 0 where
+pub record IsFormed (g : Grid (List ℕ)) (m : SpanMap) (look : Look) (f : Forming) : Type 0 where
   pub columns : f.xwidth ≡ g.columns
   pub rows : f.ywidth ≡ g.rows
   pub apart : f.overlaps ≡ false
-  pub slots : (x y : ℕ) → x < g.columns → y < g.rows → cells_at f.covered x y ≡ cell_of g (owner_in (rectangles m) (place y x)) ∷ []
+  pub slots : (x y : ℕ) → x < g.columns → y < g.rows → cells_at f.covered x y ≡ cell_of g look (owner_in (rectangles m) (place y x)) ∷ []
   pub outside : (x y : ℕ) → IsOutside g.columns g.rows x y → cells_at f.covered x y ≡ []
   pub anchors : lacks_anchors f ≡ lacks_owners g m
 
--- bytes are read as elements that form the grid, with its texts as they are shown
-pub record Shows (g : Grid (List ℕ)) (m : SpanMap) (bytes : List ℕ) : Type 0 where
-  pub trs : List (List Td)
-  pub read : parsed bytes ≡ Some trs
-  pub formed : IsFormed (map_grid shown g) m (forming_a_table trs)
+-- the look with its caption as it is shown
+abbrev pub shown_look : Look → Look
+shown_look look = record look { caption = option_map shown look.caption }
+
+-- bytes are read as the table, of whose elements the grid is formed, with all texts as they are shown
+pub record Shows (g : Grid (List ℕ)) (m : SpanMap) (look : Look) (bytes : List ℕ) : Type 0 where
+  pub read : parsed bytes ≡ Some (table (map_grid shown g) m (shown_look look))
+  pub formed : IsFormed (map_grid shown g) m look (forming_a_table (groups_of (map_grid shown g) m look))
 
 -- a writer failed, and this holds then
 abbrev pub OnFailed : Result (Unit {0}) WriteError → Type 0 → Type 0

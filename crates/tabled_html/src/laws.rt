@@ -4,17 +4,19 @@ ghost use Rattle.std.specs.Prelude.{ℕ, List};
 ghost use Rattle.tabled_grid.specs.Fitting.{Fits};
 ghost use Rattle.tabled_grid.specs.Grid.{Grid, IsEmptyWithoutRows};
 ghost use Rattle.tabled_grid.specs.Spans.{SpanMap};
-ghost use Rattle.tabled_html.specs.Elements.{html, trs_of};
+ghost use Rattle.tabled_html.specs.Elements.{fragment, groups_of};
 ghost use Rattle.tabled_html.specs.Laws.{IsFormed, Shows};
 ghost use Rattle.tabled_html.specs.Limits.{AreWithinLimits, keep_written};
+ghost use Rattle.tabled_html.specs.Looks.{Look};
 ghost use Rattle.tabled_html_reading.specs.Forming.{forming_a_table};
 
-/// The table that is formed of the written rows is the grid, if its merged cells fit and are within the standard's limits.
+/// The table that is formed of the written row groups is the grid, if its merged cells fit and are within the standard's
+/// limits.
 pub fn written_rows_form_the_grid()
-    ensures { (g : Grid (List ℕ)) (m : SpanMap) → IsEmptyWithoutRows g → Fits m g.rows g.columns → AreWithinLimits m → IsFormed g m (forming_a_table (trs_of g m)) }
+    ensures { (g : Grid (List ℕ)) (m : SpanMap) (look : Look) → IsEmptyWithoutRows g → Fits m g.rows g.columns → AreWithinLimits m → IsFormed g m look (forming_a_table (groups_of g m look)) }
 {}
 
 /// What is written is read as elements that form the grid, with the merged cells that fit and that HTML can say.
 pub fn written_bytes_show_the_grid()
-    ensures { (g : Grid (List ℕ)) (m : SpanMap) → IsEmptyWithoutRows g → Shows g (keep_written g.rows g.columns m) (html g m) }
+    ensures { (g : Grid (List ℕ)) (m : SpanMap) (look : Look) → IsEmptyWithoutRows g → Shows g (keep_written g.rows g.columns m) look (fragment g m look) }
 {}

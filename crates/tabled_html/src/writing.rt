@@ -1,157 +1,112 @@
 //! HTML, written.
 
+ghost use Rattle.std.specs.Borrow.{Bor};
 ghost use Rattle.std.specs.Io.KnownBytes.{Appends};
-ghost use Rattle.std.specs.List.{flat_map};
-ghost use Rattle.std.specs.Prelude.{◌≡◌, ◌<◌, Err, OnOk, decimal};
+ghost use Rattle.std.specs.Option.{option_map};
+ghost use Rattle.std.specs.Prelude.{◌≡◌, Err, List, OnOk, ℕ};
 ghost use Rattle.tabled_grid.specs.Covers.{IsCoverOf};
 ghost use Rattle.tabled_grid.specs.Entity.{place};
-ghost use Rattle.tabled_grid.specs.Grid.{IsEmptyWithoutRows, IsInside, map_grid};
+ghost use Rattle.tabled_grid.specs.Grid.{IsEmptyWithoutRows, map_grid};
 ghost use Rattle.tabled_grid.specs.Spans.{rectangle, sized};
 ghost use Rattle.tabled_held.specs.Pens.{Sends};
 ghost use Rattle.tabled_held.specs.Sent.{IsCutShort};
-ghost use Rattle.tabled_html.specs.Elements.{html, span_attribute, td, tds_at, tr_of, trs_of};
+ghost use Rattle.tabled_html.specs.Elements.{fragment, framed, html, page_end, page_start, table};
 ghost use Rattle.tabled_html.specs.Laws.{OnFailed, Shows};
 ghost use Rattle.tabled_html.specs.Limits.{keep_written};
+ghost use Rattle.tabled_html.specs.Looks.{plain_look};
 ghost use Rattle.tabled_html.specs.declared.fault.WriteError.TheVariants.{OutOfMemory};
-ghost use Rattle.tabled_html_reading.specs.Bytes.{attribute, table_bytes, td_bytes, tr_bytes};
-ghost use Rattle.tabled_html_reading.specs.Escaping.{escaped, escaped_byte};
+ghost use Rattle.tabled_html_reading.specs.Bytes.{caption_bytes, table_bytes};
 
+use crate::cells::write_text;
 use crate::fault::WriteError;
 use crate::limits::spans_written;
+use crate::page::Page;
+use crate::rows::write_groups;
 use std::alloc::Global;
 use std::io::Write;
-use tabled_grid::config::{CoverMap, Position, Size, SpannedConfig};
+use tabled_grid::config::{CoverMap, SpannedConfig};
 use tabled_grid::records::{CellText, ExactRecords, PeekableRecords, Records};
 use tabled_held::{Held, Pen};
 
-/// Writes a byte of a text.
-fn write_byte<W: Write>(pen: &mut Pen<'_, W>, byte: u8)
-    ensures { Sends W.contents pen.old pen.new (escaped_byte byte) }
+/// Writes a caption, if there is one.
+fn write_caption<W: Write>(pen: &mut Pen<'_, W>, caption: Option<&str>)
+    ensures { Sends W.contents pen.old pen.new (caption_bytes (option_map (λ (text : Bor (List ℕ)). text.now) caption.entry)) }
 {
-    match byte {
-        b'&' => pen.send(b"&amp;"),
-        b'<' => pen.send(b"&lt;"),
-        b'>' => pen.send(b"&gt;"),
-        b'\r' => pen.send(b"&#13;"),
-        0 => pen.send(b"\xEF\xBF\xBD"),
-        _ => pen.send_byte(byte),
+    if let Some(text) = caption {
+        pen.send(b"<caption>");
+        write_text(pen, text.as_bytes());
+        pen.send(b"</caption>\n");
     }
 }
 
-/// Writes a text.
-fn write_text<W: Write>(pen: &mut Pen<'_, W>, text: &[u8])
-    ensures { Sends W.contents pen.old pen.new (escaped text.now) }
-{
-    for byte in text {
-        write_byte(pen, *byte);
-    }
-}
-
-/// Writes a number's digits.
-fn write_number<W: Write>(pen: &mut Pen<'_, W>, number: usize)
-    ensures { Sends W.contents pen.old pen.new (decimal number) }
-{
-    if number < 10 {
-        pen.send_byte(b'0' + number as u8);
-        return;
-    }
-    write_number(pen, number / 10);
-    pen.send_byte(b'0' + (number % 10) as u8);
-}
-
-/// Writes an attribute with a number above 1, of which 1 needs none.
-fn write_attribute<W: Write>(pen: &mut Pen<'_, W>, name: &[u8], number: usize)
-    ensures { Sends W.contents pen.old pen.new (attribute name.now (span_attribute number)) }
-{
-    if number > 1 {
-        pen.send(name);
-        write_number(pen, number);
-        pen.send_byte(b'"');
-    }
-}
-
-/// Writes a cell.
-fn write_cell<W: Write>(pen: &mut Pen<'_, W>, size: Size, text: &[u8])
-    ensures { Sends W.contents pen.old pen.new (td_bytes (td size text.now)) }
-{
-    pen.send(b"<td");
-    write_attribute(pen, b" colspan=\"", size.width);
-    write_attribute(pen, b" rowspan=\"", size.height);
-    pen.send_byte(b'>');
-    write_text(pen, text);
-    pen.send(b"</td>");
-}
-
-/// Writes the cell that begins at a place, if one does.
-fn write_place<W, R>(
+/// Writes a table.
+fn write_table<W, R>(
     pen: &mut Pen<'_, W>,
     records: &R,
+    page: &Page<'_>,
     spans: &SpannedConfig,
     cover: &CoverMap,
-    pos: Position,
 )
 where
     W: Write,
     R: Records + ExactRecords + PeekableRecords,
     R::Cell: CellText,
     requires well { R.is_well_formed records.now }
-    requires inside { IsInside (R.grid records.now) pos }
     requires block { cover.now.block ≡ rectangle (place 0 0) (sized (R.grid records.now).rows (R.grid records.now).columns) }
     requires cover { IsCoverOf spans.now cover.now }
-    ensures { Sends W.contents pen.old pen.new (flat_map td_bytes (tds_at (map_grid R.Cell.text_of (R.grid records.now)) spans.now pos)) }
-{
-    if cover.is_hidden(pos) {
-        return;
-    }
-    write_cell(pen, spans.size(pos), records.get_text(pos).as_bytes());
-}
-
-/// Writes a row.
-fn write_row<W, R>(
-    pen: &mut Pen<'_, W>,
-    records: &R,
-    spans: &SpannedConfig,
-    cover: &CoverMap,
-    i: usize,
-)
-where
-    W: Write,
-    R: Records + ExactRecords + PeekableRecords,
-    R::Cell: CellText,
-    requires well { R.is_well_formed records.now }
-    requires row { i < (R.grid records.now).rows }
-    requires block { cover.now.block ≡ rectangle (place 0 0) (sized (R.grid records.now).rows (R.grid records.now).columns) }
-    requires cover { IsCoverOf spans.now cover.now }
-    ensures { Sends W.contents pen.old pen.new (tr_bytes (tr_of (map_grid R.Cell.text_of (R.grid records.now)) spans.now i)) }
-{
-    pen.send(b"<tr>");
-    for j in 0..records.count_columns() {
-        write_place(pen, records, spans, cover, Position { row: i, col: j });
-    }
-    pen.send(b"</tr>\n");
-}
-
-/// Writes all rows.
-fn write_rows<W, R>(pen: &mut Pen<'_, W>, records: &R, spans: &SpannedConfig, cover: &CoverMap)
-where
-    W: Write,
-    R: Records + ExactRecords + PeekableRecords,
-    R::Cell: CellText,
-    requires well { R.is_well_formed records.now }
-    requires block { cover.now.block ≡ rectangle (place 0 0) (sized (R.grid records.now).rows (R.grid records.now).columns) }
-    requires cover { IsCoverOf spans.now cover.now }
-    ensures { Sends W.contents pen.old pen.new (table_bytes (trs_of (map_grid R.Cell.text_of (R.grid records.now)) spans.now)) }
+    ensures { Sends W.contents pen.old pen.new (table_bytes (table (map_grid R.Cell.text_of (R.grid records.now)) spans.now page.now)) }
 {
     pen.send(b"<table>\n");
-    for i in 0..records.count_rows() {
-        write_row(pen, records, spans, cover, i);
-    }
+    write_caption(pen, page.caption_text());
+    write_groups(pen, records, page, spans, cover);
     pen.send(b"</table>\n");
 }
 
+/// Writes what stands before the table of a whole page.
+fn write_page_start<W: Write>(pen: &mut Pen<'_, W>)
+    ensures { Sends W.contents pen.old pen.new page_start }
+{
+    pen.send(
+        b"<!DOCTYPE html>\n<html lang=\"en\">\n<head>\n<meta charset=\"utf-8\">\n<title>Table</title>\n<style>\n:root { color-scheme: light dark }\ntable { border-collapse: collapse }\ncaption { white-space: pre-line }\nth, td { border: 1px solid; padding: 0.2em 0.5em; text-align: left; vertical-align: top; white-space: pre-line }\n</style>\n</head>\n<body>\n",
+    );
+}
+
+/// Writes what stands behind it.
+fn write_page_end<W: Write>(pen: &mut Pen<'_, W>)
+    ensures { Sends W.contents pen.old pen.new page_end }
+{
+    pen.send(b"</body>\n</html>\n");
+}
+
+/// Writes a table, or the page that it stands in.
+fn write_page<W, R>(
+    pen: &mut Pen<'_, W>,
+    records: &R,
+    page: &Page<'_>,
+    spans: &SpannedConfig,
+    cover: &CoverMap,
+)
+where
+    W: Write,
+    R: Records + ExactRecords + PeekableRecords,
+    R::Cell: CellText,
+    requires well { R.is_well_formed records.now }
+    requires block { cover.now.block ≡ rectangle (place 0 0) (sized (R.grid records.now).rows (R.grid records.now).columns) }
+    requires cover { IsCoverOf spans.now cover.now }
+    ensures { Sends W.contents pen.old pen.new (framed page.now.is_whole (table_bytes (table (map_grid R.Cell.text_of (R.grid records.now)) spans.now page.now))) }
+{
+    if page.is_whole() {
+        write_page_start(pen);
+        write_table(pen, records, page, spans, cover);
+        write_page_end(pen);
+        return;
+    }
+    write_table(pen, records, page, spans, cover);
+}
+
 /// Writes a table (`r x c`) as HTML: a `table` with a `tr` for each row and a `td` for each cell where it begins, with
-/// `colspan` and `rowspan` of merged cells. Rectangles that don't fit the table, or that take more than 1000
-/// columns or 65,534 rows, which the standard doesn't take, count as single cells.
+/// `colspan` and `rowspan` of merged cells. Rectangles that don't fit the table, or that take more than 1000 columns or
+/// 65,534 rows, which the standard doesn't take, count as single cells.
 ///
 /// Its texts stand for themselves, but for U+0000, which HTML has no way to write: U+FFFD is shown for it.
 ///
@@ -170,14 +125,43 @@ where
     R: Records + ExactRecords + PeekableRecords,
     R::Cell: CellText,
     requires well { R.is_well_formed records.now }
-    ensures written { OnOk result (Appends (W.contents writer.old) (W.contents writer.new) (html (map_grid R.Cell.text_of (R.grid records.now)) cfg.now)) }
+    ensures written { OnOk result (Appends (W.contents writer.old) (W.contents writer.new) (html (map_grid R.Cell.text_of (R.grid records.now)) cfg.now plain_look)) }
 
     // What is written is read as elements that form the grid.
-    ensures shows { OnOk result (IsEmptyWithoutRows (R.grid records.now) → Shows (map_grid R.Cell.text_of (R.grid records.now)) (keep_written (R.grid records.now).rows (R.grid records.now).columns cfg.now) (html (map_grid R.Cell.text_of (R.grid records.now)) cfg.now)) }
+    ensures shows { OnOk result (IsEmptyWithoutRows (R.grid records.now) → Shows (map_grid R.Cell.text_of (R.grid records.now)) (keep_written (R.grid records.now).rows (R.grid records.now).columns cfg.now) plain_look (fragment (map_grid R.Cell.text_of (R.grid records.now)) cfg.now plain_look)) }
 
     // Where memory is refused the writer got nothing, and where it failed the first bytes, and not all.
     ensures memory { result ≡ Err OutOfMemory → W.contents writer.new ≡ W.contents writer.old }
-    ensures failed { OnFailed result (IsCutShort (W.contents writer.old) (W.contents writer.new) (html (map_grid R.Cell.text_of (R.grid records.now)) cfg.now)) }
+    ensures failed { OnFailed result (IsCutShort (W.contents writer.old) (W.contents writer.new) (html (map_grid R.Cell.text_of (R.grid records.now)) cfg.now plain_look)) }
+{
+    let page = Page::new();
+    write_with(alloc, writer, records, cfg, &page)
+}
+
+/// Writes a table (`r x c`) as HTML, as `write` does, with the header, the caption and the alignments of a page, and as a
+/// whole page if it is one. A header cell is a `th`.
+///
+/// Of this project.
+pub fn write_with<W, R>(
+    alloc: Global,
+    writer: &mut W,
+    records: &R,
+    cfg: &SpannedConfig,
+    page: &Page<'_>,
+) -> Result<(), WriteError>
+where
+    W: Write,
+    R: Records + ExactRecords + PeekableRecords,
+    R::Cell: CellText,
+    requires well { R.is_well_formed records.now }
+    ensures written { OnOk result (Appends (W.contents writer.old) (W.contents writer.new) (html (map_grid R.Cell.text_of (R.grid records.now)) cfg.now page.now)) }
+
+    // The table that is written is read as elements that form the grid.
+    ensures shows { OnOk result (IsEmptyWithoutRows (R.grid records.now) → Shows (map_grid R.Cell.text_of (R.grid records.now)) (keep_written (R.grid records.now).rows (R.grid records.now).columns cfg.now) page.now (fragment (map_grid R.Cell.text_of (R.grid records.now)) cfg.now page.now)) }
+
+    // Where memory is refused the writer got nothing, and where it failed the first bytes, and not all.
+    ensures memory { result ≡ Err OutOfMemory → W.contents writer.new ≡ W.contents writer.old }
+    ensures failed { OnFailed result (IsCutShort (W.contents writer.old) (W.contents writer.new) (html (map_grid R.Cell.text_of (R.grid records.now)) cfg.now page.now)) }
 {
     let rows = records.count_rows();
     let columns = records.count_columns();
@@ -185,7 +169,7 @@ where
     let cover = CoverMap::new(alloc, &spans, rows, columns)?;
     let held = Held::new(alloc)?;
     let mut pen = Pen::new(writer, held);
-    write_rows(&mut pen, records, &spans, &cover);
+    write_page(&mut pen, records, page, &spans, &cover);
     let (written, outcome) = pen.finish();
     // No effect: the proof reads here what the writer got.
     let _ = &*written;

@@ -4,6 +4,8 @@ use Rattle.std.proofs.lemmas.List.{take_all, take_more}
 use Rattle.std.proofs.Common.{[], ◌++◌, ◌+◌, ◌<◌, ◌∙◌, ◌∷◌, ◌≡◌, ◌≤◌, List, add-one, ap, append-nil, append_assoc, get_or, length, sym, take, ℕ}
 use Rattle.std.specs.List.{flat_map}
 use Rattle.tabled_html_reading.specs.Areas.{series}
+use Rattle.tabled_html_reading.specs.Bytes.{attribute_bytes, attributes_bytes}
+use Rattle.tabled_html_reading.specs.Elements.{Attribute}
 use Rattle.tabled_html_reading.specs.Escaping.{escaped, escaped_byte}
 
 -- ---- a text
@@ -31,5 +33,18 @@ module _ {A : Type 0} (bytes : A → List ℕ) (head : List ℕ) where
   pub series-end : (tail : List ℕ) (f : ℕ → List A) (n m : ℕ) → n ≡ m → (head ++ flat_map bytes (series n f)) ++ tail ≡ head ++ (flat_map bytes (series m f) ++ tail)
   series-end tail f n m same = append_assoc head (flat_map bytes (series n f)) tail ∙ ap (λ k. head ++ (flat_map bytes (series k f) ++ tail)) same
 
-pub six-parts : (a b c d e f : List ℕ) → ((((a ++ b) ++ c) ++ d) ++ e) ++ f ≡ a ++ (b ++ (c ++ (d ++ (e ++ f))))
-six-parts a b c d e f = simp append_assoc
+pub four-parts : (a b c d : List ℕ) → ((a ++ b) ++ c) ++ d ≡ a ++ (b ++ (c ++ d))
+four-parts a b c d = simp append_assoc
+
+pub five-parts : (a b c d e : List ℕ) → (((a ++ b) ++ c) ++ d) ++ e ≡ a ++ (b ++ (c ++ (d ++ e)))
+five-parts a b c d e = simp append_assoc
+
+-- attributes one after another, and the end of their tag
+pub four-attributes : (a b c d : List Attribute) → (((flat_map attribute_bytes a ++ flat_map attribute_bytes b) ++ flat_map attribute_bytes c) ++ flat_map attribute_bytes d) ++ (62 ∷ []) ≡ attributes_bytes (a ++ (b ++ (c ++ d)))
+four-attributes a b c d =
+    let f : Attribute → List ℕ = λ x. attribute_bytes x in
+    ap (λ bs. bs ++ (62 ∷ []))
+    (four-parts (flat_map f a) (flat_map f b) (flat_map f c) (flat_map f d)
+    ∙ ap (λ bs. flat_map f a ++ (flat_map f b ++ bs)) (sym (flat_map-append f c d))
+    ∙ ap (λ bs. flat_map f a ++ bs) (sym (flat_map-append f b (c ++ d)))
+    ∙ sym (flat_map-append f a (b ++ (c ++ d))))

@@ -1,17 +1,22 @@
 -- What is read of escaped texts, and of the bytes of elements.
-use Rattle.std.proofs.Common.{◌≡◌, ◌≢◌, ◌∙◌, ◌++◌, ◌+◌, ◌-◌, ◌*◌, ◌/◌, ◌%◌, ◌^◌, ◌<◌, ◌≤◌, ◌==◌, ℕ, Bool, true, false, List, [], ◌∷◌, None, Option, Some, ap, append-nil, append_assoc, arith, cond, decimal, eqb, eqb-true, ne_eqb, not, refl, sym}
+use Rattle.std.proofs.Common.{◌≡◌, ◌≢◌, ◌∙◌, ◌++◌, ◌+◌, ◌-◌, ◌*◌, ◌/◌, ◌%◌, ◌^◌, ◌<◌, ◌≤◌, ◌==◌, ◌||◌, ℕ, Bool, true, false, List, [], ◌∷◌, None, Option, Some, ap, append-nil, append_assoc, arith, cond, decimal, eqb, eqb-true, ne_eqb, not, refl, sym}
 use Rattle.std.proofs.lemmas.Bool.{and_from, and_parts, le-leb, leb-true}
 use Rattle.std.proofs.lemmas.Fmt.{decimal_by_steps}
 use Rattle.std.proofs.lemmas.List.{map-append}
 use Rattle.std.proofs.lemmas.List.Folds.{list_all-append}
-use Rattle.std.specs.List.{AllByRecursion, list_all}
+use Rattle.std.specs.List.{AllByRecursion, flat_map, list_all}
+use Rattle.std.proofs.lemmas.Bool.Decides.{nat_tests}
 use Rattle.std.specs.Prelude.{codes}
-use Rattle.tabled_html_reading.specs.Building.{number, number_behind, read_text, text_in, text_of}
+use Rattle.tabled_html_reading.specs.Building.{read_text, text_in, text_of}
+use Rattle.tabled_html_reading.specs.Characters.{is_digit, is_letter, is_plain, is_small, is_within, lowercase}
+use Rattle.tabled_html_reading.specs.Elements.{Attribute, number, number_behind}
+use Rattle.tabled_html_reading.specs.Bytes.{attribute_bytes, attributes_bytes}
+use Rattle.tabled_html_reading.specs.Showing.{ArePlain, IsPlain}
 use Rattle.tabled_html_reading.specs.Escaping.{escaped, escaped_byte, shown, shown_byte}
-use Rattle.tabled_html_reading.specs.Tokenizing.{Tag, Token, after, characters, emit, in_data, in_state, is_digit, normalized, tokens_from}
-use Rattle.tabled_html_reading.specs.Tokenizing.State.{AttributeValue, Data}
+use Rattle.tabled_html_reading.specs.Tokenizing.{Tag, Token, after, characters, emit, in_data, in_state, normalized, tag, tokens_from, with_attribute}
+use Rattle.tabled_html_reading.specs.Tokenizing.State.{AfterAttributeValue, AttributeName, AttributeValue, BeforeAttributeName, Data, TagName}
 use Rattle.tabled_html_reading.specs.Tokenizing.Step.{Emits, Moves}
-use Rattle.tabled_html_reading.specs.Tokenizing.Token.{Character}
+use Rattle.tabled_html_reading.specs.Tokenizing.Token.{Character, Marked}
 
 -- ---- newlines
 
@@ -165,23 +170,154 @@ decimal-number n less = decimal_by_steps IsNumber one more n less
       read = pushed ds (48 + n % 10) (n / 10) was.read (digit-is (n % 10) (omega arith)) ∙ (let e : n / 10 * 10 + (48 + n % 10 - 48) ≡ n = omega arith in ap Some e);
     }
 
--- digits in the value of an attribute
-pub read-digits : (t : Tag) (name value ds bs : List ℕ) → AreDigits ds → tokens_from (ds ++ bs) (AttributeValue t name value) ≡ tokens_from bs (AttributeValue t name (value ++ ds))
-read-digits t name value [] bs all = ap (λ v. tokens_from bs (AttributeValue t name v)) (sym (append-nil value))
-read-digits t name value (d ∷ ds) bs all =
-    ap (after (λ s. tokens_from (ds ++ bs) s)) step
-    ∙ read-digits t name (value ++ (d ∷ [])) ds bs all.1
-    ∙ ap (λ v. tokens_from bs (AttributeValue t name v)) (append_assoc value (d ∷ []) ds)
+digits-plain : (ds : List ℕ) → AreDigits ds → list_all is_plain ds ≡ true
+digits-plain [] all = refl
+digits-plain (d ∷ ds) all =
+    let low : 48 ≤ d = leb-true 48 d (and_parts _ _ all.0).0 in
+    let high : d ≤ 57 = leb-true d 57 (and_parts _ _ all.0).1 in
+    and_from _ _ (digit-plain low high) (digits-plain ds all.1)
   where
-    low : 48 ≤ d
-    low = leb-true 48 d (and_parts _ _ all.0).0
+    digit-plain : 48 ≤ d → d ≤ 57 → is_plain d ≡ true
+    digit-plain low high = rw (ne_eqb d 34 (λ e. omega (arith, e, low)), ne_eqb d 38 (λ e. omega (arith, e, low)), ne_eqb d 13 (λ e. omega (arith, e, low)), ne_eqb d 0 (λ e. omega (arith, e, low))) refl
 
-    step : in_state (AttributeValue t name value) d ≡ Moves (AttributeValue t name (value ++ (d ∷ [])))
-    step = rw (ne_eqb d 34 (λ e. omega (arith, e, low)), ne_eqb d 38 (λ e. omega (arith, e, low)), ne_eqb d 0 (λ e. omega (arith, e, low))) refl
+pub decimal-plain : (n : ℕ) → n < 2 ^ 64 → list_all is_plain (decimal n) ≡ true
+decimal-plain n less = digits-plain (decimal n) (decimal-number n less).digits
 
-no_return-digits : (ds : List ℕ) → AreDigits ds → has_no_return ds ≡ true
-no_return-digits [] all = refl
-no_return-digits (d ∷ ds) all = and_from _ _ (ap not (ne_eqb d 13 (λ e. omega (arith, e, leb-true 48 d (and_parts _ _ all.0).0)))) (no_return-digits ds all.1)
+-- ---- attributes
 
-pub no_return-decimal : (n : ℕ) → n < 2 ^ 64 → has_no_return (decimal n) ≡ true
-no_return-decimal n less = no_return-digits (decimal n) (decimal-number n less).digits
+-- what is_plain rules out
+pub record StandsAlone (b : ℕ) : Type 0 where
+  pub quote : eqb b 34 ≡ false
+  pub ampersand : eqb b 38 ≡ false
+  pub return : eqb b 13 ≡ false
+  pub nul : eqb b 0 ≡ false
+
+plain-alone : (b : ℕ) → is_plain b ≡ true → StandsAlone b
+plain-alone b plain =
+    let p = and_parts _ _ plain in
+    let q = and_parts _ _ p.1 in
+    let r = and_parts _ _ q.1 in
+    record { quote = not-so _ p.0; ampersand = not-so _ q.0; return = not-so _ r.0; nul = not-so _ r.1 }
+  where
+    not-so : (c : Bool) → not c ≡ true → c ≡ false
+    not-so true h = cc
+    not-so false h = refl
+
+-- bytes in the value of an attribute
+read-value : (t : Tag) (name value vs bs : List ℕ) → list_all is_plain vs ≡ true → tokens_from (vs ++ bs) (AttributeValue t name value) ≡ tokens_from bs (AttributeValue t name (value ++ vs))
+read-value t name value [] bs plain = ap (λ v. tokens_from bs (AttributeValue t name v)) (sym (append-nil value))
+read-value t name value (v ∷ vs) bs plain =
+    ap (after (λ s. tokens_from (vs ++ bs) s)) (step (plain-alone v (and_parts _ _ plain).0))
+    ∙ read-value t name (value ++ (v ∷ [])) vs bs (and_parts _ _ plain).1
+    ∙ ap (λ w. tokens_from bs (AttributeValue t name w)) (append_assoc value (v ∷ []) vs)
+  where
+    step : StandsAlone v → in_state (AttributeValue t name value) v ≡ Moves (AttributeValue t name (value ++ (v ∷ [])))
+    step alone = rw (alone.quote, alone.ampersand, alone.nul) refl
+
+-- a small letter is read as it is
+pub record IsSmall (b : ℕ) : Type 0 where
+  pub letter : is_letter b ≡ true
+  pub same : lowercase b ≡ b
+  pub equals : eqb b 61 ≡ false
+  pub end : eqb b 62 ≡ false
+  pub tab : eqb b 9 ≡ false
+  pub feed : eqb b 10 ≡ false
+  pub form : eqb b 12 ≡ false
+  pub blank : eqb b 32 ≡ false
+  pub return : eqb b 13 ≡ false
+
+small-is : (b : ℕ) → is_small b ≡ true → IsSmall b
+small-is b small =
+    let low : 97 ≤ b = leb-true 97 b (and_parts _ _ small).0 in
+    record {
+      letter = rw small (or-true (is_within 65 90 b));
+      same = rw (not-capital low) refl;
+      equals = ne_eqb b 61 (λ e. omega (arith, e, low));
+      end = ne_eqb b 62 (λ e. omega (arith, e, low));
+      tab = ne_eqb b 9 (λ e. omega (arith, e, low));
+      feed = ne_eqb b 10 (λ e. omega (arith, e, low));
+      form = ne_eqb b 12 (λ e. omega (arith, e, low));
+      blank = ne_eqb b 32 (λ e. omega (arith, e, low));
+      return = ne_eqb b 13 (λ e. omega (arith, e, low));
+    }
+  where
+    or-true : (c : Bool) → (c || true) ≡ true
+    or-true true = refl
+    or-true false = refl
+
+    not-capital : 97 ≤ b → is_within 65 90 b ≡ false
+    not-capital low = grind (arith, nat_tests)
+
+-- letters in the name of an attribute
+read-name : (t : Tag) (name cs bs : List ℕ) → list_all is_small cs ≡ true → tokens_from (cs ++ bs) (AttributeName t name) ≡ tokens_from bs (AttributeName t (name ++ cs))
+read-name t name [] bs small = ap (λ n. tokens_from bs (AttributeName t n)) (sym (append-nil name))
+read-name t name (c ∷ cs) bs small =
+    ap (after (λ s. tokens_from (cs ++ bs) s)) (step (small-is c (and_parts _ _ small).0))
+    ∙ read-name t (name ++ (c ∷ [])) cs bs (and_parts _ _ small).1
+    ∙ ap (λ n. tokens_from bs (AttributeName t n)) (append_assoc name (c ∷ []) cs)
+  where
+    step : IsSmall c → in_state (AttributeName t name) c ≡ Moves (AttributeName t (name ++ (c ∷ [])))
+    step is = rw (is.equals, is.letter, is.same) refl
+
+-- an attribute behind its blank
+read-attribute : (t : Tag) (a : Attribute) (bs : List ℕ) → IsPlain a → tokens_from ((a.name ++ (61 ∷ 34 ∷ (a.value ++ (34 ∷ [])))) ++ bs) (BeforeAttributeName t) ≡ tokens_from bs (AfterAttributeValue (with_attribute t a.name a.value))
+read-attribute t a bs plain =
+    let rest : List ℕ = 61 ∷ 34 ∷ (a.value ++ (34 ∷ [])) in
+    let small : list_all is_small (plain.first ∷ plain.others) ≡ true = ap (list_all is_small) (sym plain.name) ∙ plain.letters in
+    let begin = small-is plain.first (and_parts _ _ small).0 in
+    ap (λ n. tokens_from ((n ++ rest) ++ bs) (BeforeAttributeName t)) plain.name
+    ∙ ap (after (λ s. tokens_from ((plain.others ++ rest) ++ bs) s)) (step begin)
+    ∙ ap (λ xs. tokens_from xs (AttributeName t (plain.first ∷ []))) (append_assoc plain.others rest bs)
+    ∙ read-name t (plain.first ∷ []) plain.others (rest ++ bs) (and_parts _ _ small).1
+    ∙ ap (λ xs. tokens_from xs (AttributeValue t (plain.first ∷ plain.others) [])) (append_assoc a.value (34 ∷ []) bs)
+    ∙ read-value t (plain.first ∷ plain.others) [] a.value (34 ∷ bs) plain.value
+    ∙ ap (λ n. tokens_from bs (AfterAttributeValue (with_attribute t n a.value))) (sym plain.name)
+  where
+    step : IsSmall plain.first → in_state (BeforeAttributeName t) plain.first ≡ Moves (AttributeName t (plain.first ∷ []))
+    step is = rw (is.tab, is.feed, is.form, is.blank, is.end, is.letter, is.same) refl
+
+-- a tag with more attributes
+abbrev pub with_attributes : Tag → List Attribute → Tag
+with_attributes t attributes = record t { attributes = t.attributes ++ attributes }
+
+-- the first attribute's bytes, before those of the others
+pub attribute-first : (a : Attribute) (attributes : List Attribute) (bs : List ℕ) → attributes_bytes (a ∷ attributes) ++ bs ≡ attribute_bytes a ++ (attributes_bytes attributes ++ bs)
+attribute-first a attributes bs = ap (λ xs. xs ++ bs) (append_assoc (attribute_bytes a) (flat_map attribute_bytes attributes) (62 ∷ [])) ∙ append_assoc (attribute_bytes a) (attributes_bytes attributes) bs
+
+-- attributes and the end of a tag, behind another attribute
+read-others : (t : Tag) (attributes : List Attribute) (bs : List ℕ) → ArePlain attributes → tokens_from (attributes_bytes attributes ++ bs) (AfterAttributeValue t) ≡ emit (Marked (with_attributes t attributes) ∷ []) (tokens_from bs Data)
+read-others t [] bs plain = ap (λ xs. emit (Marked (record t { attributes = xs }) ∷ []) (tokens_from bs Data)) (sym (append-nil t.attributes))
+read-others t (a ∷ attributes) bs plain =
+    ap (λ xs. tokens_from xs (AfterAttributeValue t)) (attribute-first a attributes bs)
+    ∙ read-attribute t a (attributes_bytes attributes ++ bs) plain.0
+    ∙ read-others (with_attribute t a.name a.value) attributes bs plain.1
+    ∙ ap (λ xs. emit (Marked (record t { attributes = xs }) ∷ []) (tokens_from bs Data)) (append_assoc t.attributes (a ∷ []) attributes)
+
+-- attributes and the end of a tag, behind its name
+pub read-attributes : (is_end : Bool) (name : List ℕ) (attributes : List Attribute) (bs : List ℕ) → ArePlain attributes → tokens_from (attributes_bytes attributes ++ bs) (TagName (tag is_end name)) ≡ emit (Marked (with_attributes (tag is_end name) attributes) ∷ []) (tokens_from bs Data)
+read-attributes is_end name [] bs plain = refl
+read-attributes is_end name (a ∷ attributes) bs plain =
+    let t = tag is_end name in
+    ap (λ xs. tokens_from xs (TagName t)) (attribute-first a attributes bs)
+    ∙ read-attribute t a (attributes_bytes attributes ++ bs) plain.0
+    ∙ read-others (with_attribute t a.name a.value) attributes bs plain.1
+
+-- ---- no carriage return is written in them
+
+no_return-plain : (vs : List ℕ) → list_all is_plain vs ≡ true → has_no_return vs ≡ true
+no_return-plain [] plain = refl
+no_return-plain (v ∷ vs) plain = let p = and_parts _ _ plain in and_from _ _ (ap not (plain-alone v p.0).return) (no_return-plain vs p.1)
+
+no_return-small : (cs : List ℕ) → list_all is_small cs ≡ true → has_no_return cs ≡ true
+no_return-small [] small = refl
+no_return-small (c ∷ cs) small = let p = and_parts _ _ small in and_from _ _ (ap not (small-is c p.0).return) (no_return-small cs p.1)
+
+no_return-attribute : (a : Attribute) → IsPlain a → has_no_return (attribute_bytes a) ≡ true
+no_return-attribute a plain = no_return-then a.name (61 ∷ 34 ∷ (a.value ++ (34 ∷ []))) (no_return-small a.name plain.letters) (no_return-then a.value (34 ∷ []) (no_return-plain a.value plain.value) refl)
+
+no_return-all : (attributes : List Attribute) → ArePlain attributes → has_no_return (flat_map attribute_bytes attributes) ≡ true
+no_return-all [] plain = refl
+no_return-all (a ∷ attributes) plain = no_return-then (attribute_bytes a) (flat_map attribute_bytes attributes) (no_return-attribute a plain.0) (no_return-all attributes plain.1)
+
+pub no_return-attributes : (attributes : List Attribute) → ArePlain attributes → has_no_return (attributes_bytes attributes) ≡ true
+no_return-attributes attributes plain = no_return-then (flat_map attribute_bytes attributes) (62 ∷ []) (no_return-all attributes plain) refl

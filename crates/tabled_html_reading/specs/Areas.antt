@@ -1,6 +1,7 @@
 -- Rectangles that tile a table, and the rows of elements that stand for them.
-use Rattle.std.specs.Prelude.{◌≡◌, ◌+◌, ◌<◌, ◌≤◌, ◌⊎◌, ◌==◌, ◌&&◌, ◌||◌, ◌++◌, if◌then◌else◌, ℕ, Bool, List, [], ◌∷◌, nat_lt, not, suc, true, zero, false}
-use Rattle.tabled_html_reading.specs.Forming.{Cell, Forming, Td, any_below, cells_at, colspan_of, lacks_anchors, rowspan_of}
+use Rattle.std.specs.Prelude.{◌≡◌, ◌+◌, ◌-◌, ◌<◌, ◌≤◌, ◌⊎◌, ◌==◌, ◌&&◌, ◌||◌, ◌++◌, if◌then◌else◌, ℕ, Bool, List, [], ◌∷◌, nat_lt, not, suc, true, zero, false}
+use Rattle.tabled_html_reading.specs.Elements.{Element, Group}
+use Rattle.tabled_html_reading.specs.Forming.{Cell, Forming, any_below, cells_at, colspan_of, lacks_anchors, rowspan_of}
 
 -- what f gives of 0, of 1 and so on up to below n, one after another
 abbrev pub series : {A : Type 0} → ℕ → (ℕ → List A) → List A
@@ -27,16 +28,16 @@ pub record In (a : Area) (x y : ℕ) : Type 0 where
 
 -- each slot of a table is in its area, which is also that of all its other slots, and lies in the table; its element says
 -- how large it is
-pub record Tiles (columns rows : ℕ) (own : ℕ → ℕ → Area) (element : Area → Td) : Type 0 where
+pub record Tiles (columns rows : ℕ) (own : ℕ → ℕ → Area) (element : Area → Element) : Type 0 where
   pub holds : (x y : ℕ) → x < columns → y < rows → In (own x y) x y
   pub shared : (x y u v : ℕ) → x < columns → y < rows → u < columns → v < rows → In (own x y) u v → own u v ≡ own x y
   pub across : (x y : ℕ) → x < columns → y < rows → (own x y).x + (own x y).width ≤ columns
   pub down : (x y : ℕ) → x < columns → y < rows → (own x y).y + (own x y).height ≤ rows
-  pub wide : (x y : ℕ) → x < columns → y < rows → colspan_of (element (own x y)).colspan ≡ (own x y).width
-  pub high : (x y : ℕ) → x < columns → y < rows → rowspan_of (element (own x y)).rowspan ≡ (own x y).height
+  pub wide : (x y : ℕ) → x < columns → y < rows → colspan_of (element (own x y)) ≡ (own x y).width
+  pub high : (x y : ℕ) → x < columns → y < rows → rowspan_of (element (own x y)) ≡ (own x y).height
 
 -- the cell of an area
-abbrev pub cell_in : (Area → Td) → Area → Cell
+abbrev pub cell_in : (Area → Element) → Area → Cell
 cell_in element a = record { x = a.x; y = a.y; element = element a }
 
 -- the area of a slot begins there
@@ -50,16 +51,29 @@ lacks_beginnings columns rows own =
     || any_below columns (λ x. not (any_below rows (λ y. begins own x y)))
 
 -- the element of a slot, where its area begins there
-abbrev pub elements_at : (ℕ → ℕ → Area) → (Area → Td) → ℕ → ℕ → List Td
+abbrev pub elements_at : (ℕ → ℕ → Area) → (Area → Element) → ℕ → ℕ → List Element
 elements_at own element y x = if begins own x y then element (own x y) ∷ [] else []
 
 -- the elements of a row
-abbrev pub row_in : ℕ → (ℕ → ℕ → Area) → (Area → Td) → ℕ → List Td
+abbrev pub row_in : ℕ → (ℕ → ℕ → Area) → (Area → Element) → ℕ → List Element
 row_in columns own element y = series columns (elements_at own element y)
 
--- the elements of each row of a table
-abbrev pub rows_in : ℕ → ℕ → (ℕ → ℕ → Area) → (Area → Td) → List (List Td)
-rows_in columns rows own element = series rows (λ y. row_in columns own element y ∷ [])
+-- the elements of each of some rows, the first of which is known
+abbrev pub rows_between : ℕ → (ℕ → ℕ → Area) → (Area → Element) → ℕ → ℕ → List (List Element)
+rows_between columns own element first count = series count (λ k. row_in columns own element (first + k) ∷ [])
+
+-- all rows as the body of a table
+abbrev pub as_body : ℕ → ℕ → (ℕ → ℕ → Area) → (Area → Element) → List Group
+as_body columns rows own element = record { is_head = false; rows = rows_between columns own element 0 rows } ∷ []
+
+-- the first rows as its head, and the others as its body
+abbrev pub as_head_and_body : ℕ → ℕ → (ℕ → ℕ → Area) → (Area → Element) → ℕ → List Group
+as_head_and_body columns rows own element head =
+    record { is_head = true; rows = rows_between columns own element 0 head } ∷ record { is_head = false; rows = rows_between columns own element head (rows - head) } ∷ []
+
+-- the areas of the first rows end in them
+abbrev pub EndWithin : ℕ → (ℕ → ℕ → Area) → ℕ → Type 0
+EndWithin columns own head = (x y : ℕ) → x < columns → y < head → (own x y).y + (own x y).height ≤ head
 
 -- a slot comes before row i's column j, row by row
 abbrev pub is_before : ℕ → ℕ → ℕ → ℕ → Bool
@@ -70,11 +84,11 @@ abbrev pub begun : (ℕ → ℕ → Area) → ℕ → ℕ → ℕ → ℕ → Bo
 begun own i j x y = is_before i j (own x y).x (own x y).y
 
 -- the cells of a slot at that point
-abbrev pub seen : (ℕ → ℕ → Area) → (Area → Td) → ℕ → ℕ → ℕ → ℕ → List Cell
+abbrev pub seen : (ℕ → ℕ → Area) → (Area → Element) → ℕ → ℕ → ℕ → ℕ → List Cell
 seen own element i j x y = if begun own i j x y then cell_in element (own x y) ∷ [] else []
 
 -- the table is formed up to row i
-pub record Between (columns rows : ℕ) (own : ℕ → ℕ → Area) (element : Area → Td) (i : ℕ) (f : Forming) : Type 0 where
+pub record Between (columns rows : ℕ) (own : ℕ → ℕ → Area) (element : Area → Element) (i : ℕ) (f : Forming) : Type 0 where
   pub slots : (x y : ℕ) → x < columns → y < rows → cells_at f.covered x y ≡ seen own element i 0 x y
   pub outside : (x y : ℕ) → IsOutside columns rows x y → cells_at f.covered x y ≡ []
   pub growing : f.growing ≡ []
@@ -86,7 +100,7 @@ pub record Between (columns rows : ℕ) (own : ℕ → ℕ → Area) (element : 
   pub reach : (x y : ℕ) → x < columns → y < rows → begun own i 0 x y ≡ true → x < f.xwidth
 
 -- the table is formed up to row i's column j: the slots between that column and xcurrent have cells, whichever comes first
-pub record InRow (columns rows : ℕ) (own : ℕ → ℕ → Area) (element : Area → Td) (i j : ℕ) (f : Forming) : Type 0 where
+pub record InRow (columns rows : ℕ) (own : ℕ → ℕ → Area) (element : Area → Element) (i j : ℕ) (f : Forming) : Type 0 where
   pub slots : (x y : ℕ) → x < columns → y < rows → cells_at f.covered x y ≡ seen own element i j x y
   pub outside : (x y : ℕ) → IsOutside columns rows x y → cells_at f.covered x y ≡ []
   pub growing : f.growing ≡ []
@@ -101,7 +115,7 @@ pub record InRow (columns rows : ℕ) (own : ℕ → ℕ → Area) (element : Ar
   pub reached : f.xcurrent ≤ f.xwidth
 
 -- the formed table is the tiled one
-pub record IsTiled (columns rows : ℕ) (own : ℕ → ℕ → Area) (element : Area → Td) (f : Forming) : Type 0 where
+pub record IsTiled (columns rows : ℕ) (own : ℕ → ℕ → Area) (element : Area → Element) (f : Forming) : Type 0 where
   pub across : f.xwidth ≡ columns
   pub down : f.ywidth ≡ rows
   pub apart : f.overlaps ≡ false

@@ -1,6 +1,8 @@
 pub mod Areas
 pub mod Building
 pub mod Bytes
+pub mod Characters
+pub mod Elements
 pub mod Escaping
 pub mod Examples
 pub mod Forming

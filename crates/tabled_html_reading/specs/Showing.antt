@@ -1,26 +1,46 @@
--- Elements as they are shown.
-use Rattle.std.specs.Prelude.{◌<◌, ◌^◌, ℕ, List, None, Option, Some, map}
-use Rattle.std.specs.List.{AllByRecursion}
+-- Elements as they are shown, and which of them are written so that they are read again.
+use Rattle.std.specs.Prelude.{◌≡◌, ◌∷◌, ℕ, List, map, true}
+use Rattle.std.specs.List.{AllByRecursion, list_all}
+use Rattle.std.specs.Option.{option_map}
+use Rattle.tabled_html_reading.specs.Building.{are_spans}
+use Rattle.tabled_html_reading.specs.Characters.{is_plain, is_small}
+use Rattle.tabled_html_reading.specs.Elements.{Attribute, Element, Group, Table}
 use Rattle.tabled_html_reading.specs.Escaping.{shown}
-use Rattle.tabled_html_reading.specs.Forming.{Td}
 
 -- the element with its text as it is shown
-abbrev pub shown_td : Td → Td
-shown_td t = record t { text = shown t.text }
+abbrev pub shown_element : Element → Element
+shown_element e = record e { text = shown e.text }
 
--- the elements of each row, as they are shown
-abbrev pub shown_trs : List (List Td) → List (List Td)
-shown_trs trs = map (map shown_td) trs
+-- the row group with the texts of its cells as they are shown
+abbrev pub shown_group : Group → Group
+shown_group g = record g { rows = map (map shown_element) g.rows }
 
--- the numbers of attributes are those of a program
-abbrev pub IsFew : Option ℕ → Type 0
-IsFew None = Unit {0}
-IsFew (Some n) = n < 2 ^ 64
+-- the table with all texts as they are shown
+abbrev pub shown_table : Table → Table
+shown_table t = record t { caption = option_map shown t.caption; groups = map shown_group t.groups }
 
--- so are both numbers of an element
-abbrev pub IsFewTd : Td → Type 0
-IsFewTd t = IsFew t.colspan × IsFew t.rowspan
+-- an attribute has a name of small letters, and a value that stands for itself between quotes
+pub record IsPlain (a : Attribute) : Type 0 where
+  pub first : ℕ
+  pub others : List ℕ
+  pub name : a.name ≡ first ∷ others
+  pub letters : list_all is_small a.name ≡ true
+  pub value : list_all is_plain a.value ≡ true
 
--- so are those of all elements
-abbrev pub AreFew : List (List Td) → Type 0
-AreFew trs = AllByRecursion (λ tds. AllByRecursion IsFewTd tds) trs
+-- all attributes of a tag have
+abbrev pub ArePlain : List Attribute → Type 0
+ArePlain attributes = AllByRecursion IsPlain attributes
+
+-- the attributes of a cell are plain, and numbers say its spans
+pub record IsWritable (e : Element) : Type 0 where
+  pub plain : ArePlain e.attributes
+  pub spans : are_spans e.attributes ≡ true
+
+-- so are those of all cells of some rows
+abbrev pub AreWritable : List (List Element) → Type 0
+AreWritable rows = AllByRecursion (λ cells. AllByRecursion IsWritable cells) rows
+
+-- so are those of all cells of a table, and its own are plain
+pub record IsTableWritable (t : Table) : Type 0 where
+  pub attributes : ArePlain t.attributes
+  pub groups : AllByRecursion (λ (g : Group). AreWritable g.rows) t.groups

@@ -13,4 +13,4 @@ returns-clause-formed c = record {
 
 pub returns-clause-read : goal.returns-clause-read
 unfolding lib.Utf8.encode
-returns-clause-read c = record { newlines = refl; controls = refl; names = refl; bare = refl; nul = refl; tag = refl; table = refl; unclosed = refl }
+returns-clause-read c = record { newlines = refl; controls = refl; names = refl; bare = refl; nul = refl; tag = refl; table = refl; whole = refl; unclosed = refl }

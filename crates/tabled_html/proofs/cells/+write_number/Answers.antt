@@ -1,7 +1,7 @@
 use Rattle.std.proofs.Common.{arith, sym}
 use Rattle.std.proofs.lemmas.Fmt.{decimal_digit, decimal_step}
 use Rattle.tabled_held.proofs.Pens.{sends-as, sends-then}
-use Rattle.tabled_html.proofs.writing.+write_number.Goals as goal
+use Rattle.tabled_html.proofs.cells.+write_number.Goals as goal
 
 pub returns-then-number-lt10 : goal.returns-then-number-lt10
 returns-then-number-lt10 t g c = sends-as (sym (decimal_digit c.args.number c.if-number-lt10.true)) c.send_byte.ensures

@@ -1,4 +1,4 @@
-use Rattle.tabled_html.proofs.writing.+write_number.Given as goal
+use Rattle.tabled_html.proofs.cells.+write_number.Given as goal
 
 abbrev pub decreases-write_number : goal.decreases-write_number
 decreases-write_number g l = l.number

@@ -1,6 +1,6 @@
 use Rattle.tabled_held.proofs.Pens.{sends-as, sends-none, sends-then}
 use Rattle.tabled_html_reading.proofs.Bytes.{text-all, text-more}
-use Rattle.tabled_html.proofs.writing.write_text.Goals as goal
+use Rattle.tabled_html.proofs.cells.write_text.Goals as goal
 
 pub loop-byte-init : goal.loop-byte-init
 loop-byte-init g c = sends-none

@@ -1,0 +1,13 @@
+use Rattle.std.proofs.Common.{◌++◌}
+use Rattle.std.specs.List.{flat_map}
+use Rattle.std.specs.Prelude.{codes}
+use Rattle.tabled_grid.specs.Entity.{place}
+use Rattle.tabled_grid.specs.Grid.{map_grid}
+use Rattle.tabled_held.specs.Pens.{Sends}
+use Rattle.tabled_html.specs.Elements.{begun_at}
+use Rattle.tabled_html_reading.specs.Areas.{series}
+use Rattle.tabled_html_reading.specs.Bytes.{cell_bytes}
+use Rattle.tabled_html.proofs.rows.write_row.Given as goal
+
+abbrev pub invariant-loop-j : goal.invariant-loop-j
+invariant-loop-j g l = Sends g.W.Write.contents l.fn.pen l.pen (codes "<tr>" ++ flat_map cell_bytes (series l.j (λ j. begun_at (map_grid g.R.Cell.CellText.text_of (g.R.GridStore.grid l.records)) l.spans l.page (place l.i j))))

@@ -1,0 +1,15 @@
+use Rattle.std.proofs.Common.{◌∙◌, append_assoc, sym}
+use Rattle.tabled_grid.specs.Grid.{map_grid}
+use Rattle.tabled_held.proofs.Pens.{sends-as, sends-then}
+use Rattle.tabled_html.specs.Elements.{page_end, page_start, table}
+use Rattle.tabled_html_reading.specs.Bytes.{table_bytes}
+use Rattle.tabled_html.proofs.writing.write_page.Goals as goal
+
+pub returns-then-is_whole : goal.returns-then-is_whole
+returns-then-is_whole g c =
+    rw (sym c.is_whole.ensures ∙ c.if-is_whole.true)
+    (sends-as (append_assoc page_start (table_bytes (table (map_grid g.R.Cell.CellText.text_of (g.R.GridStore.grid c.args.records.now)) c.args.spans.now c.args.page.now)) page_end)
+    (sends-then (sends-then c.write_page_start.ensures c.write_table.ensures) c.write_page_end.ensures))
+
+pub returns : goal.returns
+returns g c = rw (sym c.is_whole.ensures ∙ c.if-is_whole.false) c.write_table-2.ensures

@@ -1,0 +1,201 @@
+//! Rows of HTML, written.
+
+ghost use Rattle.std.specs.List.{flat_map};
+ghost use Rattle.std.specs.Prelude.{◌≡◌, ◌+◌, ◌<◌, ◌≤◌, ◌^◌, IsTrue};
+ghost use Rattle.tabled_grid.specs.Covers.{IsCoverOf};
+ghost use Rattle.tabled_grid.specs.Entity.{place};
+ghost use Rattle.tabled_grid.specs.Grid.{IsInside, map_grid};
+ghost use Rattle.tabled_grid.specs.Spans.{rectangle, sized};
+ghost use Rattle.tabled_held.specs.Pens.{Sends};
+ghost use Rattle.tabled_html.specs.Elements.{begun_at, group, groups_of, has_head, row_of, rows_of};
+ghost use Rattle.tabled_html_reading.specs.Bytes.{cell_bytes, group_bytes, group_end, group_start, row_bytes};
+
+use crate::cells::write_cell;
+use crate::page::Page;
+use std::io::Write;
+use tabled_grid::config::{CoverMap, Position, SpannedConfig};
+use tabled_grid::records::{Axis, CellText, ExactRecords, PeekableRecords, Records};
+use tabled_held::Pen;
+
+/// Writes the cell that begins at a place, if one does.
+fn write_place<W, R>(
+    pen: &mut Pen<'_, W>,
+    records: &R,
+    page: &Page<'_>,
+    spans: &SpannedConfig,
+    cover: &CoverMap,
+    pos: Position,
+)
+where
+    W: Write,
+    R: Records + ExactRecords + PeekableRecords,
+    R::Cell: CellText,
+    requires well { R.is_well_formed records.now }
+    requires inside { IsInside (R.grid records.now) pos }
+    requires block { cover.now.block ≡ rectangle (place 0 0) (sized (R.grid records.now).rows (R.grid records.now).columns) }
+    requires cover { IsCoverOf spans.now cover.now }
+    ensures { Sends W.contents pen.old pen.new (flat_map cell_bytes (begun_at (map_grid R.Cell.text_of (R.grid records.now)) spans.now page.now pos)) }
+{
+    if cover.is_hidden(pos) {
+        return;
+    }
+    write_cell(
+        pen,
+        pos.row < page.header_rows(),
+        page.alignment(pos.col),
+        spans.size(pos),
+        records.get_text(pos).as_bytes(),
+    );
+}
+
+/// Writes a row.
+fn write_row<W, R>(
+    pen: &mut Pen<'_, W>,
+    records: &R,
+    page: &Page<'_>,
+    spans: &SpannedConfig,
+    cover: &CoverMap,
+    i: usize,
+)
+where
+    W: Write,
+    R: Records + ExactRecords + PeekableRecords,
+    R::Cell: CellText,
+    requires well { R.is_well_formed records.now }
+    requires row { i < (R.grid records.now).rows }
+    requires block { cover.now.block ≡ rectangle (place 0 0) (sized (R.grid records.now).rows (R.grid records.now).columns) }
+    requires cover { IsCoverOf spans.now cover.now }
+    ensures { Sends W.contents pen.old pen.new (row_bytes (row_of (map_grid R.Cell.text_of (R.grid records.now)) spans.now page.now i)) }
+{
+    pen.send(b"<tr>");
+    for j in 0..records.count_columns() {
+        write_place(
+            pen,
+            records,
+            page,
+            spans,
+            cover,
+            Position { row: i, col: j },
+        );
+    }
+    pen.send(b"</tr>\n");
+}
+
+/// Writes some rows, from one on.
+fn write_rows<W, R>(
+    pen: &mut Pen<'_, W>,
+    records: &R,
+    page: &Page<'_>,
+    spans: &SpannedConfig,
+    cover: &CoverMap,
+    first: usize,
+    count: usize,
+)
+where
+    W: Write,
+    R: Records + ExactRecords + PeekableRecords,
+    R::Cell: CellText,
+    requires well { R.is_well_formed records.now }
+    requires rows { first + count ≤ (R.grid records.now).rows }
+    requires numbered { first + count < 2 ^ 64 }
+    requires block { cover.now.block ≡ rectangle (place 0 0) (sized (R.grid records.now).rows (R.grid records.now).columns) }
+    requires cover { IsCoverOf spans.now cover.now }
+    ensures { Sends W.contents pen.old pen.new (flat_map row_bytes (rows_of (map_grid R.Cell.text_of (R.grid records.now)) spans.now page.now first count)) }
+{
+    for k in 0..count {
+        write_row(pen, records, page, spans, cover, first + k);
+    }
+}
+
+/// Writes a row group's start tag.
+fn write_start<W: Write>(pen: &mut Pen<'_, W>, is_head: bool)
+    ensures { Sends W.contents pen.old pen.new (group_start is_head) }
+{
+    if is_head {
+        pen.send(b"<thead>\n");
+    } else {
+        pen.send(b"<tbody>\n");
+    }
+}
+
+/// Writes its end tag.
+fn write_end<W: Write>(pen: &mut Pen<'_, W>, is_head: bool)
+    ensures { Sends W.contents pen.old pen.new (group_end is_head) }
+{
+    if is_head {
+        pen.send(b"</thead>\n");
+    } else {
+        pen.send(b"</tbody>\n");
+    }
+}
+
+/// Writes some rows, from one on, as the head or the body of the table.
+fn write_group<W, R>(
+    pen: &mut Pen<'_, W>,
+    records: &R,
+    page: &Page<'_>,
+    spans: &SpannedConfig,
+    cover: &CoverMap,
+    is_head: bool,
+    first: usize,
+    count: usize,
+)
+where
+    W: Write,
+    R: Records + ExactRecords + PeekableRecords,
+    R::Cell: CellText,
+    requires well { R.is_well_formed records.now }
+    requires rows { first + count ≤ (R.grid records.now).rows }
+    requires numbered { first + count < 2 ^ 64 }
+    requires block { cover.now.block ≡ rectangle (place 0 0) (sized (R.grid records.now).rows (R.grid records.now).columns) }
+    requires cover { IsCoverOf spans.now cover.now }
+    ensures { Sends W.contents pen.old pen.new (group_bytes (group is_head (rows_of (map_grid R.Cell.text_of (R.grid records.now)) spans.now page.now first count))) }
+{
+    write_start(pen, is_head);
+    write_rows(pen, records, page, spans, cover, first, count);
+    write_end(pen, is_head);
+}
+
+/// Says whether the header is the head of the table.
+fn has_head(spans: &SpannedConfig, rows: usize, header: usize) -> bool
+    ensures has { result ≡ has_head rows spans.now header }
+    ensures part { IsTrue result → header ≤ rows }
+{
+    header > 0 && header <= rows && !spans.crosses(Axis::Rows, header)
+}
+
+/// Writes all rows.
+pub(crate) fn write_groups<W, R>(
+    pen: &mut Pen<'_, W>,
+    records: &R,
+    page: &Page<'_>,
+    spans: &SpannedConfig,
+    cover: &CoverMap,
+)
+where
+    W: Write,
+    R: Records + ExactRecords + PeekableRecords,
+    R::Cell: CellText,
+    requires well { R.is_well_formed records.now }
+    requires block { cover.now.block ≡ rectangle (place 0 0) (sized (R.grid records.now).rows (R.grid records.now).columns) }
+    requires cover { IsCoverOf spans.now cover.now }
+    ensures { Sends W.contents pen.old pen.new (flat_map group_bytes (groups_of (map_grid R.Cell.text_of (R.grid records.now)) spans.now page.now)) }
+{
+    let rows = records.count_rows();
+    let header = page.header_rows();
+    if has_head(spans, rows, header) {
+        write_group(pen, records, page, spans, cover, true, 0, header);
+        write_group(
+            pen,
+            records,
+            page,
+            spans,
+            cover,
+            false,
+            header,
+            rows - header,
+        );
+        return;
+    }
+    write_group(pen, records, page, spans, cover, false, 0, rows);
+}
