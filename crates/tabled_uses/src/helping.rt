@@ -13,13 +13,12 @@ pub fn meant(word: &str) -> Option<&'static str> {
 
 /// The column of a table that is called nearly so.
 pub fn column_named<'w>(name: &str, columns: &[&'w str]) -> Option<&'w str> {
-    if columns.contains(&name) {
-        return nearest(name, columns);
-    }
-    columns
-        .iter()
-        .copied()
-        .find(|column| is_within(3, name, column))
+    nearest(name, columns)
+}
+
+/// Says whether two words differ by three letters at most.
+pub fn are_alike(word: &str, other: &str) -> bool {
+    is_within(3, word, other)
 }
 
 /// What is said of a word, or else of its first fault.
