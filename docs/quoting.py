@@ -10,7 +10,7 @@
     part:PATH TRAIT             what a file says of a type as a trait
     definition:PATH NAME        a definition of a file of specs/
     answer:PATH NAME            an answer of a file of proofs/
-    crates:all                  a table of the crates, and what each uses
+    crates:called               a table of the crates that others call, and what each uses
     specs:CRATE FILE ..         a line of files of a crate's specs/, and what each is about
 Where a line names a file of crates/ and what does something there, as in - `NAME/src/x.rt`: `f`, `g`, these have to be there.
 """
@@ -127,9 +127,12 @@ def nearest(crates, crate):
 
 
 def crate_table(top, _):
+    """A table of the crates that have a page for who calls them, and what each uses."""
     crates = crates_of(top)
     lines = ["| Crate | Does | Uses, with all that these use |", "|---|---|---|"]
     for crate in crates:
+        if not (top / "crates" / crate / "CALLING.md").is_file():
+            continue
         uses = ", ".join(f"`{it}`" for it in nearest(crates, crate)) or "-"
         lines.append(f"| `{crate}` | {first_paragraph(root_of(top, crate).read_text())} | {uses} |")
     return "\n".join(lines)
