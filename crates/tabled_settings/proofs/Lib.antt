@@ -6,6 +6,7 @@ pub mod Glued
 pub mod Joins
 pub mod KeptLines
 pub mod LineReads
+pub mod LineSwaps
 pub mod Mapped
 pub mod MirroredParts
 pub mod MirroredSpans
@@ -24,6 +25,7 @@ pub mod RowByRow
 pub mod SameCells
 pub mod SplitWorked
 pub mod Sums
+pub mod SwapsFound
 pub mod TextsKept
 pub mod ThereAndBack
 pub mod TurnedRectangles

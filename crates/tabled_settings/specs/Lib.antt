@@ -1,3 +1,4 @@
+pub mod Arranged
 pub mod Charsets
 pub mod Contents
 pub mod Dups

@@ -1,8 +1,9 @@
 //! Work on the rows or on the columns of a store.
 
-ghost use Rattle.std.specs.Prelude.{◌≡◌, ◌<◌, ◌≤◌, ◌-◌, ℕ, length, min, slice_index};
+ghost use Rattle.std.specs.Prelude.{◌≡◌, ◌<◌, ◌≤◌, ◌-◌, ℕ, List, length, min, slice_index};
 ghost use Rattle.std.specs.List.Sorted.{IsStrictlyIncreasing};
 ghost use Rattle.tabled_grid.specs.Along.{count_along};
+ghost use Rattle.tabled_settings.specs.Arranged.{BringToFront, SwapForward, SwapsLines};
 ghost use Rattle.tabled_settings.specs.Lines.{BringsLines, KeepsLines, ReversesLines, indexes_in, is_marked, unmarked};
 
 use std::ops::Range;
@@ -75,6 +76,48 @@ where
         axis.swap(records, k, line);
     }
     records.truncate_lines(axis, kept.len());
+}
+
+/// Brings lines to the front, each by one swap, and cuts off the rest: each of the first lines in turn changes
+/// places with another one that isn't before it.
+pub(crate) fn bring<R>(axis: Axis, records: &mut R, swaps: &[usize])
+where
+    R: Records + ExactRecords + Resizable,
+    R::Cell: Blank,
+    requires well { R.is_well_formed records.old }
+    requires forward { SwapForward swaps.now (count_along axis (R.grid records.old)) }
+    ensures well { R.is_well_formed records.new }
+    ensures brought { (indexes : List ℕ) → BringToFront indexes swaps.now (count_along axis (R.grid records.old)) → KeepsLines axis indexes (R.grid records.old) (R.grid records.new) }
+{
+    swap_forward(axis, records, swaps);
+    records.truncate_lines(axis, swaps.len());
+}
+
+/// Swaps each of the first lines in turn with another one: columns row by row, since a walk down a column
+/// leaves the caches.
+fn swap_forward<R>(axis: Axis, records: &mut R, swaps: &[usize])
+where
+    R: ExactRecords + Resizable,
+    R::Cell: Blank,
+    requires well { R.is_well_formed records.old }
+    requires forward { SwapForward swaps.now (count_along axis (R.grid records.old)) }
+    ensures well { R.is_well_formed records.new }
+    ensures swapped { SwapsLines axis swaps.now (length swaps.now) (R.grid records.old) (R.grid records.new) }
+{
+    match axis {
+        Axis::Rows => {
+            for (k, &other) in swaps.iter().enumerate() {
+                records.swap_row(k, other);
+            }
+        }
+        Axis::Columns => {
+            for row in 0..records.count_rows() {
+                for (j, &other) in swaps.iter().enumerate() {
+                    records.swap(Position::new(row, j), Position::new(row, other));
+                }
+            }
+        }
+    }
 }
 
 /// How many of n lines are in a range.
