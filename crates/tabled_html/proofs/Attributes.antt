@@ -1,17 +1,17 @@
 -- The attributes of a cell are plain, and say its spans.
-use Rattle.std.proofs.Common.{◌++◌, ◌^◌, decimal, map, min, nat_lt, le-ltb}
-use Rattle.std.specs.List.{AllByRecursion, list_all}
+use Rattle.std.proofs.Common.{◌++◌, ◌^◌, decimal, min, nat_lt, le-ltb}
+use Rattle.std.specs.List.{list_all}
 use Rattle.std.specs.Prelude.{codes}
 use Rattle.std.specs.Str.{bytes_eq}
-use Rattle.tabled_grid.proofs.Common.{[], ◌+◌, ◌<◌, ◌∙◌, ◌∷◌, ◌≡◌, ◌≤◌, ◌⊎◌, Bool, List, None, Option, Some, all-append, and_from, ap, ap₂, arith, cases_lt, cond, cond-false, cond-true, false, inl, inr, lt-ltb, ne_eqb, refl, sym, true, ℕ}
+use Rattle.tabled_grid.proofs.Common.{[], ◌<◌, ◌∙◌, ◌∷◌, ◌≡◌, ◌≤◌, ◌⊎◌, Bool, List, None, Option, Some, all-append, and_from, ap, arith, cases_lt, cond, cond-false, cond-true, false, inl, inr, lt-ltb, ne_eqb, refl, true, ℕ}
 use Rattle.tabled_grid.specs.declared.config.size.Size.{Size}
-use Rattle.tabled_html.specs.Elements.{cell_attributes, element, manner, scope_attribute, span_attribute, style_attribute, style_of}
+use Rattle.tabled_html.specs.Elements.{cell_attributes, class_attribute, element, manner, scope_attribute, span_attribute, style_attribute, style_of}
 use Rattle.tabled_html.specs.declared.alignment.Alignment.{Alignment}
 use Rattle.tabled_html.specs.declared.alignment.Alignment.TheVariants.{Center, Left, Right}
 use Rattle.tabled_html_reading.proofs.ReadBack.{decimal-number, decimal-plain}
 use Rattle.tabled_html_reading.specs.Building.{are_spans, is_number_if}
 use Rattle.tabled_html_reading.specs.Characters.{is_plain}
-use Rattle.tabled_html_reading.specs.Elements.{Attribute, number, number_of, value_of}
+use Rattle.tabled_html_reading.specs.Elements.{Attribute, number_of, value_of}
 use Rattle.tabled_html_reading.specs.Forming.{colspan_by, colspan_of, rowspan_by, rowspan_of}
 use Rattle.tabled_html_reading.specs.Showing.{ArePlain, IsPlain}
 
@@ -124,3 +124,12 @@ module _ (h : Bool) (a : Option Alignment) (size : Size) (narrow : size.width �
   cell-plain =
       all-append IsPlain _ _ (colspan-plain (nat_lt 1 size.width))
       (all-append IsPlain _ _ (rowspan-plain (nat_lt 1 size.height)) (all-append IsPlain _ _ (scope-plain h) (style-plain a)))
+
+-- so is the class of a table
+pub class-plain : (class : Option (List ℕ)) → ArePlain (class_attribute class)
+class-plain None = tt
+class-plain (Some class) = of-class (list_all is_plain class) refl
+  where
+    of-class : (b : Bool) → list_all is_plain class ≡ b → ArePlain (cond b (record { name = codes "class"; value = class } ∷ []) [])
+    of-class true plain = (record { first = 99; others = codes "lass"; name = refl; letters = refl; value = plain }, tt)
+    of-class false plain = tt

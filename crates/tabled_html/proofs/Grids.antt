@@ -1,10 +1,9 @@
 -- A table with merged cells is tiled by the owners of its places, and the written rows are those of that tiling.
-use Rattle.std.proofs.Common.{◌++◌, eqb, map, nat_le, nat_lt, unwrap_or}
+use Rattle.std.proofs.Common.{◌++◌, eqb, map, nat_lt, unwrap_or}
 use Rattle.std.proofs.lemmas.Bool.Decides.{nat_tests}
 use Rattle.std.proofs.lemmas.List.{map-append}
 use Rattle.std.specs.List.{AllByRecursion}
 use Rattle.std.specs.Option.{option_map}
-use Rattle.std.specs.Prelude.{codes}
 use Rattle.tabled_grid.proofs.Common.{[], ◌+◌, In, not, ◌-◌, ◌<◌, ◌∙◌, ◌∷◌, ◌≡◌, ◌≤◌, ◌⊎◌, Bool, Fits, Grid, List, None, Option, Some, SpanMap, all-append, and_from, and_parts, ap, ap₂, arith, cases_lt, cond, cond-false, cond-true, crosses_line, eq-eqb, false, false_from_ne_true, false≢true, get, inl, inr, is_crossed, is_hidden, leb-true, lt-ltb, place, rectangle, rectangles, refl, size_at, subst, suc, sym, true, zero, ℕ}
 use Rattle.tabled_grid.proofs.Grids.{cell_at-map_grid}
 use Rattle.tabled_grid.proofs.Members.{Member, any-from, get-member, member-get}
@@ -14,19 +13,19 @@ use Rattle.tabled_grid.specs.declared.config.position.Position.{Position}
 use Rattle.tabled_grid.specs.declared.config.rectangle.Rectangle.{Rectangle}
 use Rattle.tabled_grid.specs.declared.config.size.Size.{Size}
 use Rattle.tabled_grid.specs.declared.records.axis.Axis.TheVariants.{Rows}
-use Rattle.tabled_html.proofs.Attributes.{cell-plain, cell-spans, colspan-is, rowspan-is}
-use Rattle.tabled_html.proofs.Owned.{LieWell, Owned, fits-well, member-owner, owned, owner-begins, owner-holds, owner-lies, owner-self, owner-shared}
+use Rattle.tabled_html.proofs.Attributes.{cell-plain, class-plain, cell-spans, colspan-is, rowspan-is}
+use Rattle.tabled_html.proofs.Owned.{LieWell, fits-well, member-owner, owned, owner-begins, owner-holds, owner-lies, owner-self, owner-shared}
 use Rattle.tabled_html.proofs.Owned.Owned.{alone, held}
 use Rattle.tabled_html.proofs.Within.{written-fits, written-within}
 use Rattle.tabled_html.specs.Elements.{begun_at, element, element_at, fragment, group, groups_of, has_head, row_of, rows_of, table, text_of_cell}
 use Rattle.tabled_html.specs.Laws.{IsFormed, Shows, area_of, element_of, own_area, shown_look}
-use Rattle.tabled_html.specs.Limits.{AreWithinLimits, IsWithinLimits, keep_written}
+use Rattle.tabled_html.specs.Limits.{AreWithinLimits, keep_written}
 use Rattle.tabled_html.specs.Looks.{Look, alignment_in}
 use Rattle.tabled_html.specs.Owners.{owner_in}
 use Rattle.tabled_html_reading.proofs.Formed.{body-formed, head-and-body-formed}
 use Rattle.tabled_html_reading.proofs.Parsed.{table-parsed}
-use Rattle.tabled_html_reading.specs.Areas.{EndWithin, IsTiled, Tiles, as_body, as_head_and_body, begins, elements_at, row_in, rows_between, series}
-use Rattle.tabled_html_reading.specs.Elements.{Element, Group}
+use Rattle.tabled_html_reading.specs.Areas.{EndWithin, IsTiled, Tiles, as_body, as_head_and_body, begins, elements_at, rows_between, series}
+use Rattle.tabled_html_reading.specs.Elements.{Group}
 use Rattle.tabled_html_reading.specs.Escaping.{shown}
 use Rattle.tabled_html_reading.specs.Forming.{forming_a_table}
 use Rattle.tabled_html_reading.specs.Showing.{AreWritable, IsTableWritable, IsWritable, shown_element, shown_group, shown_table}
@@ -198,7 +197,7 @@ module _ (m : SpanMap) (limits : AreWithinLimits m) (look : Look) where
   rows-writable g first count = all-series (AllByRecursion IsWritable) count (λ k. row_of g m look (first + k) ∷ []) (λ k. (all-series IsWritable g.columns (λ j. begun_at g m look (place (first + k) j)) (λ j. begun-writable g (place (first + k) j)), tt))
 
   table-writable : (g : Grid (List ℕ)) → IsTableWritable (table g m look)
-  table-writable g = record { attributes = tt; groups = of-head (has_head g.rows m look.header) }
+  table-writable g = record { attributes = class-plain look.class; groups = of-head (has_head g.rows m look.header) }
     where
       of-head : (b : Bool) → AllByRecursion (λ (x : Group). AreWritable x.rows) (cond b (group true (rows_of g m look 0 look.header) ∷ group false (rows_of g m look look.header (g.rows - look.header)) ∷ []) (group false (rows_of g m look 0 g.rows) ∷ []))
       of-head true = (rows-writable g 0 look.header, (rows-writable g look.header (g.rows - look.header), tt))

@@ -1,7 +1,7 @@
 -- The bytes of row groups, as they are written one after another.
 use Rattle.std.proofs.Common.{◌++◌}
 use Rattle.std.specs.List.{flat_map}
-use Rattle.tabled_grid.proofs.Common.{[], ◌-◌, ◌∙◌, ◌∷◌, ◌≡◌, Grid, List, SpanMap, ap, ap₂, append-nil, cond-false, cond-true, false, sym, true, ℕ}
+use Rattle.tabled_grid.proofs.Common.{◌-◌, ◌∙◌, ◌≡◌, Grid, List, SpanMap, ap, ap₂, append-nil, cond-false, cond-true, false, sym, true, ℕ}
 use Rattle.tabled_html.specs.Elements.{group, groups_of, has_head, rows_of}
 use Rattle.tabled_html.specs.Looks.{Look}
 use Rattle.tabled_html_reading.specs.Bytes.{group_bytes}

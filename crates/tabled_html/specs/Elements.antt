@@ -1,5 +1,6 @@
 -- The elements that stand for a table with merged cells.
 use Rattle.std.specs.Prelude.{◌+◌, ◌-◌, ◌&&◌, ◌++◌, if◌then◌else◌, ℕ, Bool, List, [], ◌∷◌, None, Option, Some, codes, decimal, false, nat_le, nat_lt, not, true}
+use Rattle.std.specs.List.{list_all}
 use Rattle.std.specs.Option.{unwrap_or}
 use Rattle.tabled_grid.specs.Entity.{place}
 use Rattle.tabled_grid.specs.Grid.{Grid, cell_at}
@@ -15,6 +16,7 @@ use Rattle.tabled_html.specs.declared.alignment.Alignment.{Alignment}
 use Rattle.tabled_html.specs.declared.alignment.Alignment.TheVariants.{Center, Left, Right}
 use Rattle.tabled_html_reading.specs.Areas.{series}
 use Rattle.tabled_html_reading.specs.Bytes.{table_bytes}
+use Rattle.tabled_html_reading.specs.Characters.{is_plain}
 use Rattle.tabled_html_reading.specs.Elements.{Attribute, Element, Group, Table}
 
 -- ---- attributes
@@ -89,9 +91,14 @@ groups_of g m look =
     then group true (rows_of g m look 0 look.header) ∷ group false (rows_of g m look look.header (g.rows - look.header)) ∷ []
     else group false (rows_of g m look 0 g.rows) ∷ []
 
+-- the class of a table, where it stands for itself between quotes
+abbrev pub class_attribute : Option (List ℕ) → List Attribute
+class_attribute None = []
+class_attribute (Some class) = if list_all is_plain class then record { name = codes "class"; value = class } ∷ [] else []
+
 -- the element of a table
 abbrev pub table : Grid (List ℕ) → SpanMap → Look → Table
-table g m look = record { attributes = []; caption = look.caption; groups = groups_of g m look }
+table g m look = record { attributes = class_attribute look.class; caption = look.caption; groups = groups_of g m look }
 
 -- its bytes, with those of its merged cells that fit it and that HTML can say
 abbrev pub fragment : Grid (List ℕ) → SpanMap → Look → List ℕ

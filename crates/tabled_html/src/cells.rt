@@ -1,7 +1,7 @@
 //! Cells of HTML, written.
 
 ghost use Rattle.std.specs.List.{flat_map};
-ghost use Rattle.std.specs.Prelude.{Some, decimal};
+ghost use Rattle.std.specs.Prelude.{[], ◌∷◌, ◌≡◌, IsTrue, Some, decimal};
 ghost use Rattle.tabled_held.specs.Pens.{Sends};
 ghost use Rattle.tabled_html.specs.Elements.{cell_attributes, element, scope_attribute, span_attribute, style_attribute};
 ghost use Rattle.tabled_html_reading.specs.Bytes.{attribute_bytes, attributes_bytes, cell_bytes, cell_end, cell_start};
@@ -12,7 +12,15 @@ use std::io::Write;
 use tabled_grid::config::Size;
 use tabled_held::Pen;
 
-/// Writes a byte of a text.
+/// Says whether a byte stands for itself in a text.
+fn stands_for_itself(byte: u8) -> bool
+    ensures { IsTrue result → escaped_byte byte ≡ byte ∷ [] }
+{
+    // Most letters lie behind these bytes: one comparison passes them.
+    byte > b'>' || !matches!(byte, b'&' | b'<' | b'>' | b'\r' | 0)
+}
+
+/// Writes what stands for a byte of a text.
 fn write_byte<W: Write>(pen: &mut Pen<'_, W>, byte: u8)
     ensures { Sends W.contents pen.old pen.new (escaped_byte byte) }
 {
@@ -26,13 +34,19 @@ fn write_byte<W: Write>(pen: &mut Pen<'_, W>, byte: u8)
     }
 }
 
-/// Writes a text.
+/// Writes a text. Bytes that stand for themselves are sent at once, as far as they go.
 pub(crate) fn write_text<W: Write>(pen: &mut Pen<'_, W>, text: &[u8])
     ensures { Sends W.contents pen.old pen.new (escaped text.now) }
 {
-    for byte in text {
-        write_byte(pen, *byte);
+    let mut written = 0;
+    for (i, byte) in text.iter().enumerate() {
+        if !stands_for_itself(*byte) {
+            pen.send(&text[written..i]);
+            write_byte(pen, *byte);
+            written = i + 1;
+        }
     }
+    pen.send(&text[written..]);
 }
 
 /// Writes a number's digits.

@@ -8,12 +8,13 @@ ghost use Rattle.tabled_html.specs.Looks.{alignment_in, plain_look};
 use crate::alignment::Alignment;
 use std::marker::Model;
 
-/// How a table is written: how many rows are its header, its caption, how the texts of its columns are aligned, and
-/// whether it stands in a page of its own.
+/// How a table is written: its class, how many rows are its header, its caption, how the texts of its columns are aligned,
+/// and whether it stands in a page of its own.
 ///
 /// Of this project.
 #[derive(Drop)]
 pub struct Page<'p> {
+    class: Option<&'p str>,
     header: usize,
     caption: Option<&'p str>,
     alignments: &'p [Alignment],
@@ -28,19 +29,31 @@ impl<'p> Model for Page<'p> {
 
     ghost Value = { Look };
 
-    ghost view = { λ a. record { header = a.header; caption = option_map (λ (text : Bor (List ℕ)). text.now) a.caption; alignments = a.alignments.now; is_whole = a.is_whole } };
+    ghost view = { λ a. record { class = option_map (λ (text : Bor (List ℕ)). text.now) a.class; header = a.header; caption = option_map (λ (text : Bor (List ℕ)). text.now) a.caption; alignments = a.alignments.now; is_whole = a.is_whole } };
 }
 
 impl<'p> Page<'p> {
-    /// A table without header, caption or alignments, which stands for itself.
+    /// A table without class, header, caption or alignments, which stands for itself.
     pub fn new() -> Self
         ensures { result ≡ plain_look }
     {
         Page {
+            class: None,
             header: 0,
             caption: None,
             alignments: &[],
             is_whole: false,
+        }
+    }
+
+    /// The table is of a class, or of some, with blanks between them. One that has a `"`, a `&`, a carriage return or U+0000
+    /// is not written.
+    pub fn class(self, class: &'p str) -> Self
+        ensures { result ≡ record self.entry { class = Some class.now } }
+    {
+        Page {
+            class: Some(class),
+            ..self
         }
     }
 
@@ -80,6 +93,13 @@ impl<'p> Page<'p> {
             is_whole: true,
             ..self
         }
+    }
+
+    /// The class.
+    pub(crate) fn class_text(&self) -> Option<&'p str>
+        ensures { option_map (λ (text : Bor (List ℕ)). text.now) result ≡ self.now.class }
+    {
+        self.class
     }
 
     /// How many rows are the header.

@@ -2,20 +2,22 @@
 
 ghost use Rattle.std.specs.Borrow.{Bor};
 ghost use Rattle.std.specs.Io.KnownBytes.{Appends};
+ghost use Rattle.std.specs.List.{flat_map, list_all};
 ghost use Rattle.std.specs.Option.{option_map};
-ghost use Rattle.std.specs.Prelude.{◌≡◌, Err, List, OnOk, ℕ};
+ghost use Rattle.std.specs.Prelude.{◌≡◌, Err, List, OnOk, Some, ℕ};
 ghost use Rattle.tabled_grid.specs.Covers.{IsCoverOf};
 ghost use Rattle.tabled_grid.specs.Entity.{place};
 ghost use Rattle.tabled_grid.specs.Grid.{IsEmptyWithoutRows, map_grid};
 ghost use Rattle.tabled_grid.specs.Spans.{rectangle, sized};
 ghost use Rattle.tabled_held.specs.Pens.{Sends};
 ghost use Rattle.tabled_held.specs.Sent.{IsCutShort};
-ghost use Rattle.tabled_html.specs.Elements.{fragment, framed, html, page_end, page_start, table};
+ghost use Rattle.tabled_html.specs.Elements.{class_attribute, fragment, framed, html, page_end, page_start, table};
 ghost use Rattle.tabled_html.specs.Laws.{OnFailed, Shows};
 ghost use Rattle.tabled_html.specs.Limits.{keep_written};
 ghost use Rattle.tabled_html.specs.Looks.{plain_look};
 ghost use Rattle.tabled_html.specs.declared.fault.WriteError.TheVariants.{OutOfMemory};
-ghost use Rattle.tabled_html_reading.specs.Bytes.{caption_bytes, table_bytes};
+ghost use Rattle.tabled_html_reading.specs.Bytes.{attribute_bytes, caption_bytes, table_bytes};
+ghost use Rattle.tabled_html_reading.specs.Characters.{is_plain};
 
 use crate::cells::write_text;
 use crate::fault::WriteError;
@@ -27,6 +29,35 @@ use std::io::Write;
 use tabled_grid::config::{CoverMap, SpannedConfig};
 use tabled_grid::records::{CellText, ExactRecords, PeekableRecords, Records};
 use tabled_held::{Held, Pen};
+
+/// Says whether a value stands for itself between quotes.
+fn is_plain(value: &[u8]) -> bool
+    ensures { result ≡ list_all is_plain value.now }
+{
+    value
+        .iter()
+        .all(|byte| !matches!(*byte, b'"' | b'&' | b'\r' | 0))
+}
+
+/// Writes the attribute of a class that stands for itself between quotes.
+fn write_class_name<W: Write>(pen: &mut Pen<'_, W>, class: &[u8])
+    ensures { Sends W.contents pen.old pen.new (flat_map attribute_bytes (class_attribute (Some class.now))) }
+{
+    if is_plain(class) {
+        pen.send(b" class=\"");
+        pen.send(class);
+        pen.send_byte(b'"');
+    }
+}
+
+/// Writes the attribute of a class, if there is one.
+fn write_class<W: Write>(pen: &mut Pen<'_, W>, class: Option<&str>)
+    ensures { Sends W.contents pen.old pen.new (flat_map attribute_bytes (class_attribute (option_map (λ (text : Bor (List ℕ)). text.now) class.entry))) }
+{
+    if let Some(class) = class {
+        write_class_name(pen, class.as_bytes());
+    }
+}
 
 /// Writes a caption, if there is one.
 fn write_caption<W: Write>(pen: &mut Pen<'_, W>, caption: Option<&str>)
@@ -56,7 +87,9 @@ where
     requires cover { IsCoverOf spans.now cover.now }
     ensures { Sends W.contents pen.old pen.new (table_bytes (table (map_grid R.Cell.text_of (R.grid records.now)) spans.now page.now)) }
 {
-    pen.send(b"<table>\n");
+    pen.send(b"<table");
+    write_class(pen, page.class_text());
+    pen.send(b">\n");
     write_caption(pen, page.caption_text());
     write_groups(pen, records, page, spans, cover);
     pen.send(b"</table>\n");
@@ -138,8 +171,8 @@ where
     write_with(alloc, writer, records, cfg, &page)
 }
 
-/// Writes a table (`r x c`) as HTML, as `write` does, with the header, the caption and the alignments of a page, and as a
-/// whole page if it is one. A header cell is a `th`.
+/// Writes a table (`r x c`) as HTML, as `write` does, with the class, the header, the caption and the alignments of a page,
+/// and as a whole page if it is one. A header cell is a `th`.
 ///
 /// Of this project.
 pub fn write_with<W, R>(

@@ -1,4 +1,7 @@
 pub mod Bytes
+pub mod Columns
 pub mod Formed
 pub mod Parsed
 pub mod ReadBack
+pub mod Rows
+pub mod Slots

@@ -4,7 +4,7 @@ use Rattle.std.proofs.lemmas.Bool.{and_parts}
 use Rattle.std.specs.List.{AllByRecursion, flat_map}
 use Rattle.std.specs.Option.{option_map}
 use Rattle.std.specs.Prelude.{codes}
-use Rattle.tabled_html_reading.proofs.Formed.{fold-then}
+use Rattle.tabled_html_reading.proofs.Slots.{fold-then}
 use Rattle.tabled_html_reading.proofs.ReadBack.{emit-then, has_no_nul, has_no_return, no_nul-shown, no_return-attributes, no_return-escaped, no_return-then, normal, read-attributes, read-escaped}
 use Rattle.tabled_html_reading.specs.Building.{Built, Mode, built_after, closed, end_cell, parsed, table_of}
 use Rattle.tabled_html_reading.specs.Building.Mode.{Behind, InBody, InCaption, InCell, InRow, InTable, InTableBody}

@@ -25,25 +25,25 @@ has_no_return bs = list_all (λ b. not (b == 13)) bs
 
 pub normal : (bs : List ℕ) → has_no_return bs ≡ true → normalized bs ≡ bs
 normal [] none = refl
-normal (b ∷ bs) none = by (eqb b 13) refl (and_parts _ _ none) (normal bs)
+normal (b ∷ bs) none = of-first (eqb b 13) refl (and_parts _ _ none) (normal bs)
   where
-    by : (r : Bool) → eqb b 13 ≡ r → (not (eqb b 13) ≡ true) × (has_no_return bs ≡ true) → (has_no_return bs ≡ true → normalized bs ≡ bs) → normalized (b ∷ bs) ≡ b ∷ bs
-    by true e parts go = let h : false ≡ true = ap not (sym e) ∙ parts.0 in cc
-    by false e parts go = rw e (ap (λ more. b ∷ more) (go parts.1))
+    of-first : (r : Bool) → eqb b 13 ≡ r → (not (eqb b 13) ≡ true) × (has_no_return bs ≡ true) → (has_no_return bs ≡ true → normalized bs ≡ bs) → normalized (b ∷ bs) ≡ b ∷ bs
+    of-first true e parts others = let h : false ≡ true = ap not (sym e) ∙ parts.0 in cc
+    of-first false e parts others = rw e (ap (λ more. b ∷ more) (others parts.1))
 
 pub no_return-then : (xs ys : List ℕ) → has_no_return xs ≡ true → has_no_return ys ≡ true → has_no_return (xs ++ ys) ≡ true
 no_return-then xs ys first second = list_all-append (λ b. not (b == 13)) xs ys ∙ and_from _ _ first second
 
 no_return-byte : (b : ℕ) → has_no_return (escaped_byte b) ≡ true
-no_return-byte b = go (eqb b 38) (eqb b 60) (eqb b 62) (eqb b 13) (eqb b 0) refl
+no_return-byte b = of-tests (eqb b 38) (eqb b 60) (eqb b 62) (eqb b 13) (eqb b 0) refl
   where
-    go : (a l g r z : Bool) → eqb b 13 ≡ r → has_no_return (cond a (codes "&amp;") (cond l (codes "&lt;") (cond g (codes "&gt;") (cond r (codes "&#13;") (cond z (239 ∷ 191 ∷ 189 ∷ []) (b ∷ [])))))) ≡ true
-    go true l g r z e = refl
-    go false true g r z e = refl
-    go false false true r z e = refl
-    go false false false true z e = refl
-    go false false false false true e = refl
-    go false false false false false e = rw e refl
+    of-tests : (a l g r z : Bool) → eqb b 13 ≡ r → has_no_return (cond a (codes "&amp;") (cond l (codes "&lt;") (cond g (codes "&gt;") (cond r (codes "&#13;") (cond z (239 ∷ 191 ∷ 189 ∷ []) (b ∷ [])))))) ≡ true
+    of-tests true l g r z e = refl
+    of-tests false true g r z e = refl
+    of-tests false false true r z e = refl
+    of-tests false false false true z e = refl
+    of-tests false false false false true e = refl
+    of-tests false false false false false e = rw e refl
 
 pub no_return-escaped : (text : List ℕ) → has_no_return (escaped text) ≡ true
 no_return-escaped [] = refl
@@ -63,21 +63,21 @@ read-plain b bs a l = ap (after (λ t. tokens_from bs t)) step
 
 read-byte : (b : ℕ) (bs : List ℕ) → tokens_from (escaped_byte b ++ bs) Data ≡ emit (characters (shown_byte b)) (tokens_from bs Data)
 unfolding lib.Utf8.encode
-read-byte b bs = go (eqb b 38) (eqb b 60) (eqb b 62) (eqb b 13) (eqb b 0) refl refl refl refl refl
+read-byte b bs = of-tests (eqb b 38) (eqb b 60) (eqb b 62) (eqb b 13) (eqb b 0) refl refl refl refl refl
   where
     at : (n : ℕ) → eqb b n ≡ true → emit (characters (shown_byte n)) (tokens_from bs Data) ≡ emit (characters (shown_byte b)) (tokens_from bs Data)
     at n e = ap (λ c. emit (characters (shown_byte c)) (tokens_from bs Data)) (sym (eqb-true b n e))
 
-    go : (a l g r z : Bool) → eqb b 38 ≡ a → eqb b 60 ≡ l → eqb b 62 ≡ g → eqb b 13 ≡ r → eqb b 0 ≡ z → tokens_from (cond a (codes "&amp;") (cond l (codes "&lt;") (cond g (codes "&gt;") (cond r (codes "&#13;") (cond z (239 ∷ 191 ∷ 189 ∷ []) (b ∷ []))))) ++ bs) Data ≡ emit (characters (shown_byte b)) (tokens_from bs Data)
-    go true l g r z ea el eg er ez = at 38 ea
-    go false true g r z ea el eg er ez = at 60 el
-    go false false true r z ea el eg er ez = at 62 eg
-    go false false false true z ea el eg er ez = at 13 er
-    go false false false false true ea el eg er ez =
+    of-tests : (a l g r z : Bool) → eqb b 38 ≡ a → eqb b 60 ≡ l → eqb b 62 ≡ g → eqb b 13 ≡ r → eqb b 0 ≡ z → tokens_from (cond a (codes "&amp;") (cond l (codes "&lt;") (cond g (codes "&gt;") (cond r (codes "&#13;") (cond z (239 ∷ 191 ∷ 189 ∷ []) (b ∷ []))))) ++ bs) Data ≡ emit (characters (shown_byte b)) (tokens_from bs Data)
+    of-tests true l g r z ea el eg er ez = at 38 ea
+    of-tests false true g r z ea el eg er ez = at 60 el
+    of-tests false false true r z ea el eg er ez = at 62 eg
+    of-tests false false false true z ea el eg er ez = at 13 er
+    of-tests false false false false true ea el eg er ez =
         ap (emit (Character 239 ∷ [])) (emit-then (Character 191 ∷ []) (Character 189 ∷ []) (tokens_from bs Data))
         ∙ emit-then (Character 239 ∷ []) (Character 191 ∷ Character 189 ∷ []) (tokens_from bs Data)
         ∙ at 0 ez
-    go false false false false false ea el eg er ez = (let e : b ∷ [] ≡ shown_byte b = rw ez refl in read-plain b bs ea el ∙ ap (λ out. emit (characters out) (tokens_from bs Data)) e)
+    of-tests false false false false false ea el eg er ez = (let e : b ∷ [] ≡ shown_byte b = rw ez refl in read-plain b bs ea el ∙ ap (λ out. emit (characters out) (tokens_from bs Data)) e)
 
 -- a text, before other bytes
 pub read-escaped : (text bs : List ℕ) → tokens_from (escaped text ++ bs) Data ≡ emit (characters (shown text)) (tokens_from bs Data)
@@ -99,11 +99,11 @@ abbrev pub has_no_nul : List ℕ → Bool
 has_no_nul bs = list_all (λ b. not (b == 0)) bs
 
 no_nul-byte : (b : ℕ) → has_no_nul (shown_byte b) ≡ true
-no_nul-byte b = go (eqb b 0) refl
+no_nul-byte b = of-test (eqb b 0) refl
   where
-    go : (z : Bool) → eqb b 0 ≡ z → has_no_nul (cond z (239 ∷ 191 ∷ 189 ∷ []) (b ∷ [])) ≡ true
-    go true e = refl
-    go false e = rw e refl
+    of-test : (z : Bool) → eqb b 0 ≡ z → has_no_nul (cond z (239 ∷ 191 ∷ 189 ∷ []) (b ∷ [])) ≡ true
+    of-test true e = refl
+    of-test false e = rw e refl
 
 pub no_nul-shown : (text : List ℕ) → has_no_nul (shown text) ≡ true
 no_nul-shown [] = refl
@@ -111,11 +111,11 @@ no_nul-shown (b ∷ bs) = list_all-append (λ b. not (b == 0)) (shown_byte b) (s
 
 text-of-characters : (bs : List ℕ) → has_no_nul bs ≡ true → text_in (characters bs) ≡ Some bs
 text-of-characters [] none = refl
-text-of-characters (b ∷ bs) none = by (eqb b 0) refl (and_parts _ _ none) (text-of-characters bs)
+text-of-characters (b ∷ bs) none = of-first (eqb b 0) refl (and_parts _ _ none) (text-of-characters bs)
   where
-    by : (z : Bool) → eqb b 0 ≡ z → (not (eqb b 0) ≡ true) × (has_no_nul bs ≡ true) → (has_no_nul bs ≡ true → text_in (characters bs) ≡ Some bs) → text_in (characters (b ∷ bs)) ≡ Some (b ∷ bs)
-    by true e parts go = let h : false ≡ true = ap not (sym e) ∙ parts.0 in cc
-    by false e parts go = rw (e, go parts.1) refl
+    of-first : (z : Bool) → eqb b 0 ≡ z → (not (eqb b 0) ≡ true) × (has_no_nul bs ≡ true) → (has_no_nul bs ≡ true → text_in (characters bs) ≡ Some bs) → text_in (characters (b ∷ bs)) ≡ Some (b ∷ bs)
+    of-first true e parts others = let h : false ≡ true = ap not (sym e) ∙ parts.0 in cc
+    of-first false e parts others = rw (e, others parts.1) refl
 
 pub read-alone : (text : List ℕ) → read_text (escaped text) ≡ Some (shown text)
 read-alone text =
@@ -145,11 +145,11 @@ digits-push (d ∷ ds) b all is = (all.0, digits-push ds b all.1 is)
 
 number-push : (k : ℕ) (ds : List ℕ) (b n : ℕ) → number_behind k ds ≡ Some n → is_digit b ≡ true → number_behind k (ds ++ (b ∷ [])) ≡ Some (n * 10 + (b - 48))
 number-push k [] b n was is = (let e : k ≡ n = cc in rw (is, e) refl)
-number-push k (d ∷ ds) b n was is = go (is_digit d) was (number-push (k * 10 + (d - 48)) ds b n)
+number-push k (d ∷ ds) b n was is = of-digit (is_digit d) was (number-push (k * 10 + (d - 48)) ds b n)
   where
-    go : (c : Bool) → cond c (number_behind (k * 10 + (d - 48)) ds) None ≡ Some n → (number_behind (k * 10 + (d - 48)) ds ≡ Some n → is_digit b ≡ true → number_behind (k * 10 + (d - 48)) (ds ++ (b ∷ [])) ≡ Some (n * 10 + (b - 48))) → cond c (number_behind (k * 10 + (d - 48)) (ds ++ (b ∷ []))) None ≡ Some (n * 10 + (b - 48))
-    go true was more = more was is
-    go false was more = cc
+    of-digit : (c : Bool) → cond c (number_behind (k * 10 + (d - 48)) ds) None ≡ Some n → (number_behind (k * 10 + (d - 48)) ds ≡ Some n → is_digit b ≡ true → number_behind (k * 10 + (d - 48)) (ds ++ (b ∷ [])) ≡ Some (n * 10 + (b - 48))) → cond c (number_behind (k * 10 + (d - 48)) (ds ++ (b ∷ []))) None ≡ Some (n * 10 + (b - 48))
+    of-digit true was more = more was is
+    of-digit false was more = cc
 
 digit-is : (d : ℕ) → d < 10 → is_digit (48 + d) ≡ true
 digit-is d less = and_from _ _ (le-leb 48 (48 + d) (omega arith)) (le-leb (48 + d) 57 (omega arith))
