@@ -26,6 +26,7 @@ pub mod SameCells
 pub mod SplitWorked
 pub mod Sums
 pub mod SwapsFound
+pub mod TakenInOrder
 pub mod TextsKept
 pub mod ThereAndBack
 pub mod TurnedRectangles

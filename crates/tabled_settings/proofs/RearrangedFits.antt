@@ -1,5 +1,6 @@
 -- Rearrangements keep merged cells inside the table and apart.
 use Rattle.tabled_settings.proofs.Common.{◌≡◌, Axis, Bool, Fits, Grid, JoinsTables, List, OptionKeeps, Places, Rearranges, Removes, ReversesTable, Same, SpanMap, Split, SplitsTable, ap, carried, carried-fits, carried_if, corner_of, false, has_pieces, joined_places, map_grid, refl, removed, reversed, reverses, split_places, true, ℕ}
+use Rattle.tabled_settings.specs.Kept.{Keeps, kept}
 use Rattle.tabled_settings.specs.declared.reverse.Reverse.{Reverse}
 use Rattle.tabled_spans.proofs.PanelGeometry.{same_fits}
 
@@ -42,6 +43,13 @@ module _ {A : Type 0} where
   pub removal_keeps : (axis : Axis) (locates : Grid A → List ℕ → Type 0) → OptionKeeps FitsIn (Removes axis locates) Same
   removal_keeps axis locates = record {
     done = λ old cfg new new_cfg fits does. carried_fit (removed axis does.found old.rows old.columns) old.rows old.columns new.rows new.columns cfg new_cfg does.rearranged.0.rows does.rearranged.0.columns does.rearranged.1;
+    refused = same_fits;
+  }
+
+  -- lines that a location finds, kept
+  pub keep_keeps : (axis : Axis) (locates : Grid A → List ℕ → Type 0) → OptionKeeps FitsIn (Keeps axis locates) Same
+  keep_keeps axis locates = record {
+    done = λ old cfg new new_cfg fits does. carried_fit (kept axis does.found old.rows old.columns) old.rows old.columns new.rows new.columns cfg new_cfg does.rearranged.0.rows does.rearranged.0.columns does.rearranged.1;
     refused = same_fits;
   }
 

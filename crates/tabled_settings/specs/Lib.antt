@@ -3,6 +3,7 @@ pub mod Charsets
 pub mod Contents
 pub mod Dups
 pub mod Joined
+pub mod Kept
 pub mod Lines
 pub mod Orders
 pub mod PiecePlaces

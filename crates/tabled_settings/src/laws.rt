@@ -22,6 +22,7 @@ use crate::duplicate::Dup;
 use crate::extract::Extract;
 use crate::format::{FormatContent, FormatContentPositioned};
 use crate::formatting::Charset;
+use crate::keep::Keep;
 use crate::reverse::Reverse;
 use crate::rotate::Rotate;
 use crate::split::Split;
@@ -223,6 +224,17 @@ where
     <L::IntoIter as IntoIterator>::IntoIter: Drop,
     T: Target,
     ensures table { KeepsFitting ⟦<Remove<L, T> as TableOption<R, SpannedConfig, D>>⟧ _remove.now }
+{}
+
+/// So do rows or columns that are kept.
+pub fn keeps_keep_merged_cells_fitting<R, D, L, T>(_keep: &Keep<L, T>)
+where
+    R: Records + ExactRecords + Resizable,
+    R::Cell: Blank,
+    L: Location<R, Coordinate = usize> + Drop,
+    <L::IntoIter as IntoIterator>::IntoIter: Drop,
+    T: Target,
+    ensures table { KeepsFitting ⟦<Keep<L, T> as TableOption<R, SpannedConfig, D>>⟧ _keep.now }
 {}
 
 /// So does a second table that is joined.

@@ -1,4 +1,4 @@
-use Rattle.tabled_settings.proofs.Common.{arith, count_along, same_count}
+use Rattle.tabled_settings.proofs.Common.{arith, same_count}
 use Rattle.tabled_settings.proofs.LineSwaps.{few_swaps, front_kept}
 use Rattle.tabled_settings.proofs.lines.bring.Goals as goal
 

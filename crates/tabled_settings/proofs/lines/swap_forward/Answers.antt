@@ -1,8 +1,8 @@
-use Rattle.tabled_settings.proofs.Common.{◌+◌, ◌<◌, ◌∙◌, ◌≡◌, Columns, Position, Rows, ap₂, arith, get_or, length, place, refl, same_count, subst, with_cells_swapped, ℕ}
+use Rattle.tabled_settings.proofs.Common.{◌+◌, ◌∙◌, ◌≡◌, Position, Rows, ap₂, arith, get_or, length, place, refl, same_count, subst, with_cells_swapped, ℕ}
 use Rattle.tabled_settings.proofs.LineSwaps.{swapped_more, swapped_none, swapped_rows}
 use Rattle.tabled_settings.proofs.RowByRow.{Underway, underway-all, underway-more, underway-next, underway-none}
 use Rattle.tabled_settings.proofs.SwapsFound.{after_more, after_none}
-use Rattle.tabled_settings.specs.Arranged.{SwapForward, SwapsLines, after_swaps}
+use Rattle.tabled_settings.specs.Arranged.{after_swaps}
 use Rattle.tabled_settings.proofs.lines.swap_forward.Goals as goal
 
 pub loop-k-init : goal.loop-k-init
