@@ -4,12 +4,14 @@ pub mod Dropped
 pub mod Duplicated
 pub mod Glued
 pub mod Joins
+pub mod KeptBack
 pub mod KeptLines
 pub mod LineReads
 pub mod LineSwaps
 pub mod Mapped
 pub mod MirroredParts
 pub mod MirroredSpans
+pub mod NamedLines
 pub mod PiecePlaces
 pub mod PieceReads
 pub mod PiecesDone

@@ -1,8 +1,8 @@
 -- Indexes that are named, each once.
 use Rattle.std.proofs.lemmas.Grind.{common_steps}
-use Rattle.std.proofs.Common.{◌==◌, ◌||◌, ◌≡◌, ◌≢◌, ◌<◌, ◌≤◌, ◌∙◌, ◌⊎◌, ◌++◌, [], ◌∷◌, Bool, true, false, cond, ℕ, List, length, ap, arith, drop, get_or, inl, inr, not, refl, sym, take, ltb, set, true≢false, Some, Less, nat_cmp}
+use Rattle.std.proofs.Common.{◌==◌, ◌||◌, ◌≡◌, ◌≢◌, ◌<◌, ◌≤◌, ◌∙◌, ◌⊎◌, ◌++◌, [], ◌∷◌, Bool, true, false, cond, ℕ, List, length, ap, arith, drop, get_or, inl, inr, not, refl, suc, sym, take, ltb, set, true≢false, Some, Less, nat_cmp}
 use Rattle.std.proofs.lemmas.Bool.{cases_Bool, cases_eq, cases_lt, eq-eqb, ne_eqb, lt-ltb, le-ltb}
-use Rattle.std.proofs.lemmas.List.{get_or-set_other, get_or-set_same, length-set, append-nil, drop_all, take_all}
+use Rattle.std.proofs.lemmas.List.{append-nil, drop_all, get_or-set_other, get_or-set_same, get_or_default, length-set, take_all}
 use Rattle.std.proofs.lemmas.List.Elements.{filter-append, All-filter}
 use Rattle.std.proofs.lemmas.List.Kept.{AllPairs-cons, AllPairs-filter}
 use Rattle.std.proofs.lemmas.List.Elements.{All-from_recursion, filter_passes, recursion_from_All}
@@ -162,3 +162,22 @@ below-same n (x ∷ xs) = elim (cases_lt x n) [
 pub taken-same : (found given : List ℕ) (n : ℕ) → (given ≡ found) ⊎ (given ≡ filter (λ (i : ℕ). partial_lt (λ x y. Some (nat_cmp x y)) i n) found) → taken_in_order given n ≡ taken_in_order found n
 taken-same found given n (inl all) = ap (λ (xs : List ℕ). taken_in_order xs n) all
 taken-same found given n (inr some) = ap each_once (ap (filter (λ (i : ℕ). ltb i n)) some ∙ below-same n found)
+
+-- all that passes a test is kept
+filter-all : (p : ℕ → Bool) (xs : List ℕ) → ((k : ℕ) → k < length xs → p (get_or xs k 0) ≡ true) → filter p xs ≡ xs
+filter-all p [] all = refl
+filter-all p (x ∷ xs) all = rw (all 0 (omega arith)) (ap (λ (ys : List ℕ). x ∷ ys) (filter-all p xs (λ k h. all (suc k) (omega (arith, h)))))
+
+-- what differs stays as it is
+once-same : (xs : List ℕ) → AllPairs Apart xs → each_once xs ≡ xs
+once-same [] apart = refl
+once-same (x ∷ xs) apart =
+    let rest : each_once xs ≡ xs = once-same xs (λ i j d h k. apart (suc i) (suc j) d (omega (arith, h)) (omega (arith, k))) in
+    let differs : (k : ℕ) → k < length xs → not (x == get_or xs k 0) ≡ true = λ k h. ap not (ne_eqb x (get_or xs k 0) (apart 0 (suc k) 0 (omega arith) (omega (arith, h)))) in
+    ap (λ (ys : List ℕ). x ∷ filter (λ (k : ℕ). not (x == k)) ys) rest ∙ ap (λ (ys : List ℕ). x ∷ ys) (filter-all (λ (k : ℕ). not (x == k)) xs differs)
+
+pub taken-all : (found : List ℕ) (n : ℕ) → AreDistinct found n → taken_in_order found n ≡ found
+taken-all found n once =
+    let all : filter (λ (i : ℕ). ltb i n) found ≡ found = filter-all (λ (i : ℕ). ltb i n) found (λ k h. lt-ltb (get_or found k 0) n (once.below k h)) in
+    let apart : AllPairs Apart found = λ i j d h k same. absurd (omega (arith, h, once.apart i j (omega (arith, h, k)) k (get_or_default found i 0 d (omega (arith, h, k)) ∙ same ∙ sym (get_or_default found j 0 d k)))) in
+    ap each_once all ∙ once-same found apart

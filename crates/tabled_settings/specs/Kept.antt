@@ -1,9 +1,10 @@
 -- Lines that are kept, in the order in which they are named.
-use Rattle.std.specs.Prelude.{◌==◌, ℕ, List, [], ◌∷◌, nat_lt, not}
+use Rattle.std.specs.Prelude.{◌≡◌, ◌<◌, ◌==◌, ℕ, List, [], ◌∷◌, length, nat_lt, not, slice_index_or}
 use Rattle.std.specs.List.{filter}
 use Rattle.tabled_grid.specs.Axis.{count_of}
 use Rattle.tabled_grid.specs.Grid.{Grid}
-use Rattle.tabled_grid.specs.Places.{Places}
+use Rattle.tabled_carry.specs.Images.{carried}
+use Rattle.tabled_grid.specs.Places.{Places, ReadsThrough}
 use Rattle.tabled_grid.specs.Spans.{SpanMap}
 use Rattle.tabled_grid.specs.declared.records.axis.Axis.{Axis}
 use Rattle.tabled_settings.specs.Rearranged.{Rearranges, kept_lines}
@@ -26,3 +27,22 @@ pub record Keeps {A : Type 0} (axis : Axis) (locates : Grid A → List ℕ → T
   pub found : List ℕ
   pub located : locates old found
   pub rearranged : Rearranges (kept axis found old.rows old.columns) old cfg new new_cfg
+
+-- the items of a list of n indexes below n are the places of these indexes in another list
+pub record TellPlaces (xs ys : List ℕ) (n : ℕ) : Type 0 where
+  pub many : length xs ≡ n
+  pub below : (i : ℕ) → i < n → slice_index_or xs i 0 < n
+  pub back : (i : ℕ) → i < n → slice_index_or ys (slice_index_or xs i 0) 0 ≡ i
+
+-- two orders of n lines, of which each undoes the other
+pub record AreInverse (xs ys : List ℕ) (n : ℕ) : Type 0 where
+  pub there : TellPlaces xs ys n
+  pub back : TellPlaces ys xs n
+
+-- a table is another one, of which lines are kept in an order
+abbrev pub IsKept : {A : Type 0} → Axis → List ℕ → Grid A → Grid A → Type 0
+IsKept axis indexes old new = ReadsThrough (kept_lines axis indexes old.rows old.columns) old new
+
+-- the merged cells of a table of which lines are kept in an order
+abbrev pub spans_kept : Axis → List ℕ → ℕ → ℕ → SpanMap → SpanMap
+spans_kept axis indexes rows columns m = carried (kept_lines axis indexes rows columns) rows columns m

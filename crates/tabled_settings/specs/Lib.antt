@@ -5,6 +5,7 @@ pub mod Dups
 pub mod Joined
 pub mod Kept
 pub mod Lines
+pub mod Named
 pub mod Orders
 pub mod PiecePlaces
 pub mod PieceTexts

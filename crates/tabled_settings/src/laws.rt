@@ -7,13 +7,18 @@ ghost use Rattle.tabled_grid.specs.declared.records.axis.Axis.{Axis};
 ghost use Rattle.tabled_options.specs.Kept.{KeepsFitting, KeepsFittingOnEach};
 ghost use Rattle.tabled_settings.specs.declared.rotate.Rotate.TheVariants.{Bottom, Left, Right, Top};
 ghost use Rattle.tabled_settings.specs.declared.split.Display.TheVariants.{Retain};
+ghost use Rattle.tabled_carry.specs.Images.{CarriesAll};
+ghost use Rattle.tabled_grid.specs.Along.{count_along};
+ghost use Rattle.tabled_grid.specs.Axis.{count_of};
+ghost use Rattle.tabled_settings.specs.Arranged.{AreDistinct};
+ghost use Rattle.tabled_settings.specs.Kept.{AreInverse, IsKept, spans_kept, taken_in_order};
 ghost use Rattle.tabled_settings.specs.Charsets.{IsCleanByte, clean_text, with_tabs};
 ghost use Rattle.tabled_settings.specs.Orders.{charset_cmp, reverse_cmp, wrap_cmp};
 ghost use Rattle.tabled_settings.specs.PiecePlaces.{IsGluedBack, all_pieces, count_texts, split_places, texts_along};
 ghost use Rattle.tabled_settings.specs.Pieces.{split};
 ghost use Rattle.tabled_grid.specs.Fitting.{Fits};
 ghost use Rattle.tabled_grid.specs.Spans.{SpanMap};
-ghost use Rattle.tabled_settings.specs.Rearranged.{IsHalfRotated, IsReversed, IsRotated, WithCells, reversed, rotated, spans_reversed, spans_rotated};
+ghost use Rattle.tabled_settings.specs.Rearranged.{IsHalfRotated, IsReversed, IsRotated, WithCells, kept_lines, reversed, rotated, spans_reversed, spans_rotated};
 ghost use Rattle.tabled_settings.specs.TakenOnce.{TakesEachOnce};
 
 use crate::concat::Concat;
@@ -99,6 +104,23 @@ pub fn rotate_takes_each_cell_once(_rotate: &Rotate)
 /// A reversal takes each old cell to exactly one new place.
 pub fn reverse_takes_each_cell_once(_reverse: Reverse)
     ensures once { (rows columns : ℕ) → TakesEachOnce (reversed _reverse.axis _reverse.start _reverse.limit rows columns) rows columns }
+{}
+
+/// Rows or columns of a table with a row and a column that are kept in an order, and then in the one that undoes
+/// it, make the table again. Merged cells that fit and are all carried along are as they were, too.
+pub fn kept_in_an_order_and_back_is_as_it_was<A>()
+    ensures cells { (axis : Axis) (there back : List ℕ) (old between new : Grid A) → IsEven old → AreInverse there back (count_along axis old) → WithCells old (IsKept axis there old between → IsKept axis back between new → new ≡ old) }
+    ensures merged { (axis : Axis) (there back : List ℕ) (m : SpanMap) (r c : ℕ) → 0 < r → AreInverse there back (count_of axis r c) → Fits m r c → CarriesAll (kept_lines axis there r c) m → spans_kept axis back r c (spans_kept axis there r c m) ≡ m }
+{}
+
+/// Indexes below a count that differ are all taken, in their order.
+pub fn distinct_indexes_are_all_taken()
+    ensures { (found : List ℕ) (n : ℕ) → AreDistinct found n → taken_in_order found n ≡ found }
+{}
+
+/// What is taken of any indexes are indexes below the count, each once.
+pub fn taken_indexes_are_distinct()
+    ensures { (found : List ℕ) (n : ℕ) → AreDistinct (taken_in_order found n) n }
 {}
 
 /// A split that keeps all pieces takes each old cell to exactly one new place.
