@@ -3,8 +3,9 @@ use Rattle.tabled_draw.proofs.Common.{Alignment, Columns, Grid, In, List, Member
 use Rattle.std.proofs.lemmas.Bool.{and_parts}
 use Rattle.tabled_draw.proofs.Each.{each-same}
 use Rattle.tabled_draw.proofs.Fitting.{kept-well}
-use Rattle.tabled_draw.proofs.Owned.{LieWell, Owned, member-owner, owned, owner-lies, owner-some}
-use Rattle.tabled_draw.proofs.Owned.Owned.{alone, held}
+use Rattle.tabled_draw.proofs.Owned.{owner-some}
+use Rattle.tabled_grid.proofs.Owners.{LieWell, Owned, member-owner, owned, owner-lies}
+use Rattle.tabled_grid.proofs.Owners.Owned.{alone, held}
 use Rattle.tabled_draw.proofs.Sizes.{from-order, largest-same, place-within}
 use Rattle.tabled_draw.specs.Owners.{owner}
 use Rattle.tabled_draw.specs.Picture.{drawn_with}

@@ -16,7 +16,8 @@ pub use Rattle.tabled_draw.specs.Laid.{AreEdges}
 pub use Rattle.tabled_draw.specs.Lines.{AreLeft, EndInside, IsCutAt, begins, begun, bytes_in, column, drawn_border, edge_before, left_if, left_inside, left_of, plan_on, stretch, text_inside}
 pub use Rattle.tabled_draw.specs.Marks.{IsFine, IsFineMark, IsNoControl}
 pub use Rattle.tabled_draw.specs.Overall.{AreEquallyWide, AreNoControls, AreNoLargerThanAsked, HoldsOfPictures, drawn_lines, lacking, most_asked, takes}
-pub use Rattle.tabled_draw.specs.Owners.{BeginHere, IsOwnerRow, begins_at, chosen, count_before, is_held_by, owner_in}
+pub use Rattle.tabled_draw.specs.Owners.{BeginHere, IsOwnerRow, begins_at, chosen, count_before, is_held_by}
+pub use Rattle.tabled_grid.specs.Owners.{owner_in}
 pub use Rattle.tabled_held.specs.Pens.{Draws, IsDone, Sends}
 pub use Rattle.tabled_draw.specs.Picture.{Plan, border_line, bytes_of_lines, column_at, edge_at, heights, left, line_at, line_height, line_width, lines_of_row, owner_at, picture, picture_lines, plan_of, shows, shows_in, top, widths, with_newlines}
 pub use Rattle.tabled_draw.specs.Sizes.{Measured, asks, grown_for, grown_sizes, in_order, least, own, own_sizes, pad, raised, room, share, start_of, text_of_cell}

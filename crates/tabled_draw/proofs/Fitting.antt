@@ -1,6 +1,6 @@
 -- Merged cells that fit a table, and those that are kept of any.
 use Rattle.tabled_draw.proofs.Common.{Alignment, Fits, Grid, HoldsOfPictures, List, Plan, Rectangle, SpanMap, Style, ap, ap₂, bytes_of_lines, fitting, keep_fitting, picture, plan_of, rectangles, rectangles-map_of, rectangles_anchors, subst, sym, ℕ, ◌∙◌, ◌≡◌}
-use Rattle.tabled_draw.proofs.Owned.{LieWell, fits-well}
+use Rattle.tabled_grid.proofs.Owners.{LieWell, fits-well}
 use Rattle.tabled_draw.specs.Picture.{drawn_with}
 use Rattle.tabled_grid.proofs.Fitting.{anchors-fitting, keep_fitting-all, keep_fitting-fits}
 

@@ -4,11 +4,12 @@ use borrow.Author.Tests.{ne_eqb, eq-eqb}
 use Rattle.tabled_draw.proofs.Arms.{equal-arms, none-alone, same-arms}
 use Rattle.tabled_draw.proofs.Fine.{ascii}
 use Rattle.tabled_draw.proofs.LawLines.{IsLineOf, edge-stands, level-stands}
-use Rattle.tabled_draw.proofs.Owned.{Inside, LieWell, Owns, owned, owner-below, owner-both, owner-exists, owner-left, owner-member, owner-owns, owner-right, owner-some, owner-top}
+use Rattle.tabled_draw.proofs.Owned.{Inside, Owns, owner-below, owner-both, owner-exists, owner-left, owner-member, owner-owns, owner-right, owner-some, owner-top}
+use Rattle.tabled_grid.proofs.Owners.{LieWell, owned}
 use Rattle.std.proofs.lemmas.Bool.{and_parts, le-ltb, leb-true, ltb-true, true_from_ne_false}
 use Rattle.tabled_grid.proofs.Members.{any-member}
 use Rattle.tabled_grid.specs.declared.records.axis.Axis.{Axis}
-use Rattle.tabled_draw.proofs.Owned.Owned.{alone, held}
+use Rattle.tabled_grid.proofs.Owners.Owned.{alone, held}
 use Rattle.tabled_draw.specs.Borders.{are_one}
 use Rattle.tabled_draw.specs.Standing.{AreMet, StandPlain, lies_above, lies_around, lies_beside}
 use Rattle.tabled_draw.proofs.LawPicture.{line-above, line-in, stands-at}

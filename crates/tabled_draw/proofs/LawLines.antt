@@ -5,7 +5,8 @@ use Rattle.tabled_draw.specs.Borders.{number}
 use Rattle.tabled_draw.proofs.Arms.{differ-none, differ-self, none-one, none-parts}
 use Rattle.tabled_draw.specs.declared.alignment.Alignment.TheVariants.{Left, Center, Right}
 use Rattle.tabled_draw.proofs.Each.{each-more, split-each}
-use Rattle.tabled_draw.proofs.Owned.{LieWell, Owns, owner-both, owner-exists, owner-left, owner-owns, owner-some}
+use Rattle.tabled_draw.proofs.Owned.{Owns, owner-both, owner-exists, owner-left, owner-owns, owner-some}
+use Rattle.tabled_grid.proofs.Owners.{LieWell}
 use Rattle.tabled_draw.proofs.Shares.{room-end}
 use Rattle.tabled_draw.proofs.Sizes.{line-least, room-enough, start-next}
 use Rattle.tabled_draw.proofs.Widths.{IsPlain, all-marks, columns-after_blanks, columns-append, columns-blanks, columns-nil, columns-replicate, plain-after_blanks, plain-append, plain-blanks, plain-marks, plain-nil}

@@ -4,7 +4,7 @@ use Rattle.std.proofs.Common.{chars}
 use borrow.Author.Tests.{ne_eqb}
 use Rattle.tabled_draw.proofs.Each.{all-each, get-singles, length-singles, split-each}
 use Rattle.tabled_draw.proofs.LawLines.{blank-fine, IsLineOf, level-fine, line-wide, mark-fine}
-use Rattle.tabled_draw.proofs.Owned.{LieWell}
+use Rattle.tabled_grid.proofs.Owners.{LieWell}
 use Rattle.std.proofs.lemmas.Bool.{or_right}
 use Rattle.tabled_grid.specs.declared.records.axis.Axis.{Axis}
 use Rattle.tabled_draw.proofs.Sizes.{length-sizes, start-next}

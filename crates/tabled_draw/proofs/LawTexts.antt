@@ -1,25 +1,14 @@
 -- Texts stand whole in a picture.
-use Rattle.tabled_draw.proofs.Common.{Alignment, Columns, IsFine, IsSeen, List, Plan, Position, Rectangle, Rows, ShowsTexts, Some, StandsAt, StandsFramed, StandsIn, [], aligned, alignment_in, and_from, any-from, ap, append_assoc, ap₂, arith, false, get_or, heights, holds, holds-from, indent_of, inl, inner_height, inner_left, inner_line, inner_top, inner_width, inr, is_hidden_in, left, length, line_at, line_height, line_width, lines_shown, not, owner_at, owner_in, picture_lines, refl, replicate, room, same_place, same_place-apart, shows, subst, sym, text_line, text_of_cell, text_width, top, widest, widths, ℕ, ◌&&◌, ◌++◌, ◌+◌, ◌-◌, ◌<◌, ◌∙◌, ◌≡◌, ◌≤◌, false≢true}
+use Rattle.tabled_draw.proofs.Common.{Alignment, Columns, IsFine, IsSeen, List, Plan, Position, Rectangle, Rows, ShowsTexts, Some, StandsAt, StandsFramed, StandsIn, [], aligned, alignment_in, ap, append_assoc, ap₂, arith, get_or, heights, indent_of, inl, inner_height, inner_left, inner_line, inner_top, inner_width, inr, left, length, line_at, line_height, line_width, lines_shown, owner_at, owner_in, picture_lines, refl, replicate, room, shows, subst, text_line, text_of_cell, text_width, top, widest, widths, ℕ, ◌++◌, ◌+◌, ◌-◌, ◌<◌, ◌∙◌, ◌≡◌, ◌≤◌}
 use Rattle.tabled_draw.proofs.LawLines.{Framed, cell-framed}
 use Rattle.tabled_draw.proofs.Widths.{IsPlain, columns-append, columns-blanks, marks-wide, plain-blanks, plain-marks}
-use Rattle.tabled_draw.proofs.Owned.{LieWell, owned, owner-inside, owner-lies, owner-owns}
-use Rattle.tabled_draw.proofs.Owned.Owned.{alone, held}
+use Rattle.tabled_draw.proofs.Owned.{owner-inside, owner-owns}
+use Rattle.tabled_grid.proofs.Owners.{LieWell, owner-lies, owner-self}
 use Rattle.tabled_draw.proofs.Shares.{room-end}
 use Rattle.tabled_draw.proofs.Sizes.{line-least, room-enough}
-use Rattle.tabled_grid.proofs.Geometry.{cases_place}
 use Rattle.tabled_draw.proofs.LawPicture.{IsLine, line-above, line-in, locate, stands-at}
 use Rattle.tabled_draw.proofs.LawPicture.Where.{line, text}
 use Rattle.tabled_grid.specs.Rectangles.{HasArea, LiesInside}
-
--- what no other merged cell holds owns itself
-pub owner-self : (es : List Rectangle) (p : Position) → is_hidden_in es p ≡ false → (owner_in es p).first ≡ p
-owner-self es p seen = elim (owned es p) [
-  | held m h ↦ elim (cases_place (owner_in es p).first p) [
-    | inl same ↦ same
-    | inr other ↦ absurd (false≢true (sym seen ∙ any-from (λ (e : Rectangle). holds e p && not (same_place e.first p)) (owner_in es p) es m (and_from _ _ (holds-from _ _ h) (ap not (same_place-apart (owner_in es p).first p other)))))
-  ]
-  | alone is _ ↦ ap (λ (x : Rectangle). x.first) is
-]
 
 -- a part of what stands, stands
 stands-part : (row : List ℕ) (columns : ℕ) (a b c : List ℕ) → IsPlain a → StandsIn row columns (a ++ (b ++ c)) → StandsIn row (columns + text_width a) b

@@ -4,7 +4,8 @@ use Rattle.tabled_draw.proofs.Arms.{differ-self}
 use Rattle.tabled_draw.proofs.Each.{each-same, each-more}
 use Rattle.tabled_draw.proofs.Shares.{room-end}
 use Rattle.tabled_draw.proofs.Sizes.{start-next}
-use Rattle.tabled_draw.proofs.Owned.{LieWell, Owns, fits-well, owner-owns, owner-some}
+use Rattle.tabled_draw.proofs.Owned.{Owns, owner-owns, owner-some}
+use Rattle.tabled_grid.proofs.Owners.{LieWell, fits-well}
 use Rattle.tabled_draw.specs.Lines.{drawn_line}
 use Rattle.tabled_draw.specs.Owners.{owner}
 use Rattle.std.proofs.lemmas.List.Concat.{flat_map-append}

@@ -6,8 +6,9 @@ use Rattle.tabled_draw.proofs.Order.{all-of, member-ordered, ordered-member}
 use Rattle.tabled_draw.proofs.Widths.{columns-nil}
 use Rattle.tabled_draw.proofs.Shares.{Larger, get-grown, grown-enough, grown-larger, larger-trans, room-larger, room-one, room-span, room-without, share-low, share-outside, span, span-larger, start-more}
 use Rattle.tabled_draw.proofs.Before.{after-next, before-from, before-next, before-none, before-row, cases_before, after-from, here-next}
-use Rattle.tabled_draw.proofs.Owned.{LieWell, owned, member-at, fits-well}
-use Rattle.tabled_draw.proofs.Owned.Owned.{alone, held}
+use Rattle.tabled_draw.proofs.Owned.{member-at}
+use Rattle.tabled_grid.proofs.Owners.{LieWell, owned, fits-well}
+use Rattle.tabled_grid.proofs.Owners.Owned.{alone, held}
 use Rattle.tabled_draw.specs.Sizes.{sizes}
 use Rattle.tabled_grid.proofs.PiecePlaces.{place_is}
 use Rattle.tabled_grid.specs.declared.records.axis.Axis.{Axis}

@@ -2,7 +2,7 @@
 use Rattle.tabled_draw.proofs.Common.{Alignment, Arms, List, Plan, Style, [], are_none, arith, cond, cond-false, cond-true, corner, meeting, nat_tests, sym, ℕ, ◌∙◌, ◌∷◌, ◌≡◌}
 use Rattle.tabled_draw.proofs.Arms.{all_arms, equal-arms}
 use Rattle.tabled_draw.proofs.LawBorders.{are-met, stand-between}
-use Rattle.tabled_draw.proofs.Owned.{LieWell}
+use Rattle.tabled_grid.proofs.Owners.{LieWell}
 use Rattle.tabled_draw.specs.Borders.{are_one}
 use Rattle.tabled_draw.specs.BoxCharacters.{arms_of, horizontal, vertical}
 use Rattle.tabled_draw.specs.StyleLaws.{AreDrawn, HasArmsAtCorners, HasEnds, IsBox, IsMadeOf, all_lines, inner_lines, line_of_header, no_lines, outer_lines, outer_lines_and_header}

@@ -3,7 +3,7 @@ use Rattle.tabled_draw.proofs.Common.{ASCII, AreUnmerged, Bool, Fits, Grid, IsOw
 use Rattle.tabled_draw.proofs.Arms.{marked-corner, same-arms}
 use Rattle.tabled_draw.proofs.Each.{each-same}
 use Rattle.tabled_draw.proofs.LawBorders.{arms-meet}
-use Rattle.tabled_draw.proofs.Owned.{fits-well}
+use Rattle.tabled_grid.proofs.Owners.{fits-well}
 use Rattle.tabled_draw.specs.Borders.{Arms}
 use Rattle.tabled_draw.specs.Lines.{drawn_line}
 use Rattle.tabled_draw.specs.Owners.{owner}

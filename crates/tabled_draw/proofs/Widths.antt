@@ -61,11 +61,11 @@ unfolding step past_emoji
 step-high c t high = grind (arith, nat_tests)
 
 step-mark : (c t : ℕ) → IsFineMark c → step false c (t, plain) ≡ (t + 1, plain)
-step-mark c t fine = by (cases_lt 160 c)
+step-mark c t fine = plain-step (cases_lt 160 c)
   where
-    by : (160 < c) ⊎ (c ≤ 160) → step false c (t, plain) ≡ (t + 1, plain)
-    by (inl high) = step-high c t high ∙ ap (λ (r : Reading). (t + r.0, r.1)) fine.wide
-    by (inr low) = step-low c t (omega (arith, fine.plain.above)) (omega arith)
+    plain-step : (160 < c) ⊎ (c ≤ 160) → step false c (t, plain) ≡ (t + 1, plain)
+    plain-step (inl high) = step-high c t high ∙ ap (λ (r : Reading). (t + r.0, r.1)) fine.wide
+    plain-step (inr low) = step-low c t (omega (arith, fine.plain.above)) (omega arith)
 
 read-marks : (cs : List ℕ) → AllByRecursion IsFineMark cs → (t : ℕ) → read_before false cs (t, plain) ≡ (t + length cs, plain)
 read-marks [] all t = ap (λ k. (k, plain)) (sym (add-zero t))

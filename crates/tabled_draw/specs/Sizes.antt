@@ -3,7 +3,8 @@ use Rattle.std.specs.Prelude.{◌≡◌, ◌+◌, ◌-◌, ◌/◌, ◌%◌, ◌
 use Rattle.std.specs.List.{AllByRecursion, fold}
 use Rattle.std.specs.Option.{unwrap_or}
 use Rattle.tabled_draw.specs.Each.{by_number, each, is_in_range, largest, total}
-use Rattle.tabled_draw.specs.Owners.{Owner, owner_in}
+use Rattle.tabled_draw.specs.Owners.{Owner}
+use Rattle.tabled_grid.specs.Owners.{owner_in}
 use Rattle.tabled_draw.specs.Borders.{border}
 use Rattle.tabled_draw.specs.declared.style.Style.{Style}
 use Rattle.tabled_draw.specs.Texts.{lines_shown, widest}

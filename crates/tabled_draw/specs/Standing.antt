@@ -5,7 +5,7 @@ use Rattle.tabled_draw.specs.Alignments.{alignment_in, cell, indent}
 use Rattle.tabled_draw.specs.Borders.{Arms, are_one, corner}
 use Rattle.tabled_draw.specs.Each.{is_in_range}
 use Rattle.tabled_draw.specs.Marks.{IsFine, IsFineMark}
-use Rattle.tabled_draw.specs.Owners.{owner_in}
+use Rattle.tabled_grid.specs.Owners.{owner_in}
 use Rattle.tabled_draw.specs.Picture.{Plan, left, line_height, line_width, picture, picture_lines, plan_of, top}
 use Rattle.tabled_draw.specs.Sizes.{pad, text_of_cell}
 use Rattle.tabled_draw.specs.Texts.{line_shown, lines_shown, text_width}

@@ -19,11 +19,11 @@ module _ {X : Type 0} (test : X → Bool) where
   -- some pass just where their number isn't 0
   pub any-counts : (xs : List X) → list_any test xs ≡ nat_lt 0 (count_by test xs)
   any-counts [] = refl
-  any-counts (x ∷ xs) = by (cases_Bool (test x)) (any-counts xs)
+  any-counts (x ∷ xs) = next-counts (cases_Bool (test x)) (any-counts xs)
     where
-      by : (test x ≡ true) ⊎ (test x ≡ false) → list_any test xs ≡ nat_lt 0 (count_by test xs) → list_any test (x ∷ xs) ≡ nat_lt 0 (count_by test (x ∷ xs))
-      by (inl t) rest = ap (λ b. b || list_any test xs) t ∙ sym (lt-ltb 0 (count_by test (x ∷ xs)) (omega (arith, count-yes x xs t)))
-      by (inr t) rest = ap (λ b. b || list_any test xs) t ∙ rest ∙ ap (nat_lt 0) (sym (count-no x xs t))
+      next-counts : (test x ≡ true) ⊎ (test x ≡ false) → list_any test xs ≡ nat_lt 0 (count_by test xs) → list_any test (x ∷ xs) ≡ nat_lt 0 (count_by test (x ∷ xs))
+      next-counts (inl t) rest = ap (λ b. b || list_any test xs) t ∙ sym (lt-ltb 0 (count_by test (x ∷ xs)) (omega (arith, count-yes x xs t)))
+      next-counts (inr t) rest = ap (λ b. b || list_any test xs) t ∙ rest ∙ ap (nat_lt 0) (sym (count-no x xs t))
 
 pub hidden-counts : (m : SpanMap) (p : Position) → is_hidden m p ≡ nat_lt 0 (hiders_of m p)
 hidden-counts m p = any-counts (hides p) (rectangles m)
@@ -43,17 +43,17 @@ hider-before columns p e h t = grind (arith, common_steps, hides-true, code-less
 -- those that hide a place, if they begin from place k on, are at most the places from there up to it
 few : (columns k : ℕ) (p : Position) (es : List Rectangle) → AreSorted es → p.col < columns → k ≤ code columns p → AllByRecursion (λ (e : Rectangle). hides p e ≡ true → k ≤ code columns e.first) es → hiders_in es p + k ≤ code columns p
 few columns k p [] up h l all = omega (arith, l)
-few columns k p (e ∷ es) up h l all = by (cases_Bool (hides p e)) (few columns k p es (halves _ _ up).1 h l all.1) (λ j below rest. few columns j p es (halves _ _ up).1 h below rest)
+few columns k p (e ∷ es) up h l all = with-next (cases_Bool (hides p e)) (few columns k p es (halves _ _ up).1 h l all.1) (λ j below rest. few columns j p es (halves _ _ up).1 h below rest)
   where
     after : (fs : List Rectangle) → hides p e ≡ true → Below e.first fs → AllByRecursion (λ (f : Rectangle). hides p f ≡ true → code columns e.first + 1 ≤ code columns f.first) fs
     after [] t below = tt
     after (f ∷ fs) t below = ((λ u. omega (arith, code-less columns e.first f.first (before-less e.first f.first (less _ (halves _ _ below).0)) (hider-before columns p e h t).0)), after fs t (halves _ _ below).1)
 
-    by : (hides p e ≡ true) ⊎ (hides p e ≡ false) → hiders_in es p + k ≤ code columns p → ((j : ℕ) → j ≤ code columns p → AllByRecursion (λ (f : Rectangle). hides p f ≡ true → j ≤ code columns f.first) es → hiders_in es p + j ≤ code columns p) → hiders_in (e ∷ es) p + k ≤ code columns p
-    by (inl t) same go =
+    with-next : (hides p e ≡ true) ⊎ (hides p e ≡ false) → hiders_in es p + k ≤ code columns p → ((j : ℕ) → j ≤ code columns p → AllByRecursion (λ (f : Rectangle). hides p f ≡ true → j ≤ code columns f.first) es → hiders_in es p + j ≤ code columns p) → hiders_in (e ∷ es) p + k ≤ code columns p
+    with-next (inl t) same go =
         let more = go (code columns e.first + 1) (omega (arith, (hider-before columns p e h t).1)) (after es t (halves _ _ up).0) in
         omega (arith, more, all.0 t, count-yes (hides p) e es t)
-    by (inr t) same go = omega (arith, same, count-no (hides p) e es t)
+    with-next (inr t) same go = omega (arith, same, count-no (hides p) e es t)
 
 from_start : (columns : ℕ) (p : Position) (es : List Rectangle) → AllByRecursion (λ (e : Rectangle). hides p e ≡ true → 0 ≤ code columns e.first) es
 from_start columns p [] = tt
@@ -86,7 +86,7 @@ rest-same m n a same = sym (left n) ∙ ap rectangles (same_map (spans.remove n 
 -- a place of one cell is none that an entry may have for nothing
 counts-apart : (test : Rectangle → Bool) (a : Position) (es : List Rectangle) → test (rectangle a (sized 1 1)) ≡ false → AreSorted es → count_by test es ≡ count_by test (elsewhere a es) + cond (test (rectangle a (unwrap_or (find_at a es) (sized 1 1)))) 1 0
 counts-apart test a [] one up = ap (λ (b : Bool). 0 + cond b 1 0) (sym one)
-counts-apart test a (e ∷ es) one up = by (cases_Bool (eq_by_cmp position_cmp a e.first)) (cases_Bool (test e)) (counts-apart test a es one (halves _ _ up).1)
+counts-apart test a (e ∷ es) one up = apart-next (cases_Bool (eq_by_cmp position_cmp a e.first)) (cases_Bool (test e)) (counts-apart test a es one (halves _ _ up).1)
   where
     others : List Rectangle
     others = elsewhere a es
@@ -106,11 +106,11 @@ counts-apart test a (e ∷ es) one up = by (cases_Bool (eq_by_cmp position_cmp a
     this : eq_by_cmp position_cmp a e.first ≡ true → at (Some e.size) ≡ cond (test e) 1 0
     this t = ap (λ x. cond (test (rectangle x e.size)) 1 0) (positions_exact a e.first (equal _ t))
 
-    by : (eq_by_cmp position_cmp a e.first ≡ true) ⊎ (eq_by_cmp position_cmp a e.first ≡ false) → (test e ≡ true) ⊎ (test e ≡ false) → count_by test es ≡ count_by test others + at (find_at a es) → count_by test (e ∷ es) ≡ count_by test (elsewhere a (e ∷ es)) + at (find_at a (e ∷ es))
-    by (inl t) c go =
+    apart-next : (eq_by_cmp position_cmp a e.first ≡ true) ⊎ (eq_by_cmp position_cmp a e.first ≡ false) → (test e ≡ true) ⊎ (test e ≡ false) → count_by test es ≡ count_by test others + at (find_at a es) → count_by test (e ∷ es) ≡ count_by test (elsewhere a (e ∷ es)) + at (find_at a (e ∷ es))
+    apart-next (inl t) c go =
         let value : at (find_at a (e ∷ es)) ≡ cond (test e) 1 0 = ap at (looked true t) ∙ this t in
         rw (kept true t, value) (omega (arith, go, here t, sum_by-cons (λ y. cond (test y) 1 0) e es))
-    by (inr f) c go =
+    apart-next (inr f) c go =
         rw (kept false f, looked false f) (omega (arith, go, sum_by-cons (λ y. cond (test y) 1 0) e es, sum_by-cons (λ y. cond (test y) 1 0) e others))
 
 one_cell_hides_none : (a p : Position) → hides p (rectangle a (sized 1 1)) ≡ false
@@ -120,12 +120,12 @@ one_cell_hides_none a p = false_from_ne_true _ (λ t. let at = hides-true (recta
 no_span_hides_none : (a p : Position) (size : Size) → is_span size ≡ false → hides p (rectangle a size) ≡ false
 no_span_hides_none a p size f = false_from_ne_true _ (λ t.
     let at = hides-true (rectangle a size) p t in
-    false≢true (sym f ∙ span-from size (record { height = omega (arith, at.holds.top, at.holds.bottom); width = omega (arith, at.holds.left, at.holds.right); merges = either at.holds at.other (cases_lt 1 size.height) (cases_lt 1 size.width) })))
+    false≢true (sym f ∙ span-from size (record { height = omega (arith, at.holds.top, at.holds.bottom); width = omega (arith, at.holds.left, at.holds.right); merges = higher-or-wider at.holds at.other (cases_lt 1 size.height) (cases_lt 1 size.width) })))
   where
-    either : In (rectangle a size) p → a ≢ p → (1 < size.height) ⊎ (size.height ≤ 1) → (1 < size.width) ⊎ (size.width ≤ 1) → (1 < size.height) ⊎ (1 < size.width)
-    either at other (inl h) w = inl h
-    either at other (inr h) (inl w) = inr w
-    either at other (inr h) (inr w) = absurd (other (ap₂ place (omega (arith, at.top, at.bottom)) (omega (arith, at.left, at.right))))
+    higher-or-wider : In (rectangle a size) p → a ≢ p → (1 < size.height) ⊎ (size.height ≤ 1) → (1 < size.width) ⊎ (size.width ≤ 1) → (1 < size.height) ⊎ (1 < size.width)
+    higher-or-wider at other (inl h) w = inl h
+    higher-or-wider at other (inr h) (inl w) = inr w
+    higher-or-wider at other (inr h) (inr w) = absurd (other (ap₂ place (omega (arith, at.top, at.bottom)) (omega (arith, at.left, at.right))))
 
 -- an anchor hides a place, or not, beside all others
 hiders-apart : (m : SpanMap) (a p : Position) → hiders_of m p ≡ hiders_in (rest m a) p + cond (hides p (rectangle a (size_at m a))) 1 0
@@ -133,11 +133,11 @@ unfolding rest
 hiders-apart m a p = counts-apart (hides p) a (rectangles m) (one_cell_hides_none a p) (rectangles_sorted m) ∙ ap (λ v. hiders_in (rest m a) p + cond (hides p (rectangle a (unwrap_or v (sized 1 1)))) 1 0) (sym (get-rectangles m a))
 
 hiders-with : (m : SpanMap) (a p : Position) (new : Size) → hiders_of (with_size m a new) p ≡ hiders_in (rest m a) p + cond (hides p (rectangle a new)) 1 0
-hiders-with m a p new = hiders-apart (with_size m a new) a p ∙ ap (λ es. hiders_in es p + cond (hides p (rectangle a (size_at (with_size m a new) a))) 1 0) (rest-same m (with_size m a new) a (λ q n. with_size-other m a new q n)) ∙ ap (λ b. hiders_in (rest m a) p + cond b 1 0) (either (cases_Bool (is_span new)))
+hiders-with m a p new = hiders-apart (with_size m a new) a p ∙ ap (λ es. hiders_in es p + cond (hides p (rectangle a (size_at (with_size m a new) a))) 1 0) (rest-same m (with_size m a new) a (λ q n. with_size-other m a new q n)) ∙ ap (λ b. hiders_in (rest m a) p + cond b 1 0) (hides-sized (cases_Bool (is_span new)))
   where
-    either : (is_span new ≡ true) ⊎ (is_span new ≡ false) → hides p (rectangle a (size_at (with_size m a new) a)) ≡ hides p (rectangle a new)
-    either (inl t) = ap (λ (size : Size). hides p (rectangle a size)) (size_at-with_span m a new t)
-    either (inr f) = ap (λ (size : Size). hides p (rectangle a size)) (size_at-with_none m a new f) ∙ one_cell_hides_none a p ∙ sym (no_span_hides_none a p new f)
+    hides-sized : (is_span new ≡ true) ⊎ (is_span new ≡ false) → hides p (rectangle a (size_at (with_size m a new) a)) ≡ hides p (rectangle a new)
+    hides-sized (inl t) = ap (λ (size : Size). hides p (rectangle a size)) (size_at-with_span m a new t)
+    hides-sized (inr f) = ap (λ (size : Size). hides p (rectangle a size)) (size_at-with_none m a new f) ∙ one_cell_hides_none a p ∙ sym (no_span_hides_none a p new f)
 
 abbrev number : Bool → ℕ
 number b = cond b 1 0

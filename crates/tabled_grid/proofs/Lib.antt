@@ -36,6 +36,7 @@ pub mod NearAnchors
 pub mod NestedRows
 pub mod Order
 pub mod OwnStore
+pub mod Owners
 pub mod PassedAnchors
 pub mod PiecePlaces
 pub mod PiecesCut

@@ -77,11 +77,11 @@ each_more old xs ys cells anchor i left right step limit so run low high begins 
 }
   where
     to : (r c : ℕ) → c < cells.size.width → (hides (beyond cells.first (place r c)) anchor && nat_lt r (i + 1)) ≡ true → ((hides (beyond cells.first (place r c)) anchor && nat_lt r i) || in_run i (left, right) (place r c)) ≡ true
-    to r c k t = let parts = and_parts (hides (beyond cells.first (place r c)) anchor) (nat_lt r (i + 1)) t in either (hides-true anchor (beyond cells.first (place r c)) parts.0) (cases_lt r i) (ltb-true r (i + 1) parts.1)
+    to r c k t = let parts = and_parts (hides (beyond cells.first (place r c)) anchor) (nat_lt r (i + 1)) t in before-or-here (hides-true anchor (beyond cells.first (place r c)) parts.0) (cases_lt r i) (ltb-true r (i + 1) parts.1)
       where
-        either : Hides anchor (beyond cells.first (place r c)) → (r < i) ⊎ (i ≤ r) → r < i + 1 → ((hides (beyond cells.first (place r c)) anchor && nat_lt r i) || in_run i (left, right) (place r c)) ≡ true
-        either at (inl l) below = or_left _ _ (and_from _ _ (hides-from anchor (beyond cells.first (place r c)) at) (lt-ltb _ _ l))
-        either at (inr l) below =
+        before-or-here : Hides anchor (beyond cells.first (place r c)) → (r < i) ⊎ (i ≤ r) → r < i + 1 → ((hides (beyond cells.first (place r c)) anchor && nat_lt r i) || in_run i (left, right) (place r c)) ≡ true
+        before-or-here at (inl l) below = or_left _ _ (and_from _ _ (hides-from anchor (beyond cells.first (place r c)) at) (lt-ltb _ _ l))
+        before-or-here at (inr l) below =
             let row : r ≡ i = omega arith in
             or_right _ _ (in_run-from i (left, right) (place r c) (record { row = row; left = (begins c k).1 (at.holds.left, λ e f. at.other (ap₂ place (omega (arith, e, row)) (sym f))); right = (end c k).1 at.holds.right }))
 

@@ -129,17 +129,17 @@ module _ (first second all : Position → Bool) (step limit : ℕ) (size : Size)
 
   step_first : Stepped first step limit size f between
   step_first = record {
-    here = λ i j h k t. by_here i j h k t (cases_Bool (second (place i j)));
-    others = λ i j h k t. by_others i j h k t (cases_Bool (second (place i j)));
+    here = λ i j h k t. stepped-here i j h k t (cases_Bool (second (place i j)));
+    others = λ i j h k t. stepped-others i j h k t (cases_Bool (second (place i j)));
   }
     where
-      by_here : (i j : ℕ) → i < size.height → j < size.width → first (place i j) ≡ true → (second (place i j) ≡ true) ⊎ (second (place i j) ≡ false) → between (place i j) ≡ (f (place i j) + step) % limit
-      by_here i j h k t (inl s) = absurd (apart i j h k t s)
-      by_here i j h k t (inr n) = at i j false n ∙ stepped.here i j h k (covers i j h k ∙ ap₂ (λ a b. a || b) t n)
+      stepped-here : (i j : ℕ) → i < size.height → j < size.width → first (place i j) ≡ true → (second (place i j) ≡ true) ⊎ (second (place i j) ≡ false) → between (place i j) ≡ (f (place i j) + step) % limit
+      stepped-here i j h k t (inl s) = absurd (apart i j h k t s)
+      stepped-here i j h k t (inr n) = at i j false n ∙ stepped.here i j h k (covers i j h k ∙ ap₂ (λ a b. a || b) t n)
 
-      by_others : (i j : ℕ) → i < size.height → j < size.width → first (place i j) ≡ false → (second (place i j) ≡ true) ⊎ (second (place i j) ≡ false) → between (place i j) ≡ f (place i j)
-      by_others i j h k t (inl s) = at i j true s
-      by_others i j h k t (inr n) = at i j false n ∙ stepped.others i j h k (covers i j h k ∙ ap₂ (λ a b. a || b) t n)
+      stepped-others : (i j : ℕ) → i < size.height → j < size.width → first (place i j) ≡ false → (second (place i j) ≡ true) ⊎ (second (place i j) ≡ false) → between (place i j) ≡ f (place i j)
+      stepped-others i j h k t (inl s) = at i j true s
+      stepped-others i j h k t (inr n) = at i j false n ∙ stepped.others i j h k (covers i j h k ∙ ap₂ (λ a b. a || b) t n)
 
   step_second : Stepped second step limit size between g
   step_second = record {

@@ -15,6 +15,7 @@ pub mod Hidden
 pub mod Midway
 pub mod Moves
 pub mod Order
+pub mod Owners
 pub mod Pieces
 pub mod Places
 pub mod Rectangles

@@ -14,14 +14,14 @@ use Rattle.tabled_grid.specs.declared.config.rectangle.Rectangle.{Rectangle}
 use Rattle.tabled_grid.specs.declared.config.size.Size.{Size}
 use Rattle.tabled_grid.specs.declared.records.axis.Axis.TheVariants.{Rows}
 use Rattle.tabled_html.proofs.Attributes.{cell-plain, class-plain, cell-spans, colspan-is, rowspan-is}
-use Rattle.tabled_html.proofs.Owned.{LieWell, fits-well, member-owner, owned, owner-begins, owner-holds, owner-lies, owner-self, owner-shared}
-use Rattle.tabled_html.proofs.Owned.Owned.{alone, held}
+use Rattle.tabled_grid.proofs.Owners.{LieWell, Owned, fits-well, member-owner, owned, owner-begins, owner-holds, owner-lies, owner-self, owner-shared}
+use Rattle.tabled_grid.proofs.Owners.Owned.{alone, held}
 use Rattle.tabled_html.proofs.Within.{written-fits, written-within}
 use Rattle.tabled_html.specs.Elements.{begun_at, element, element_at, fragment, group, groups_of, has_head, row_of, rows_of, table, text_of_cell}
 use Rattle.tabled_html.specs.Laws.{IsFormed, Shows, area_of, element_of, own_area, shown_look}
 use Rattle.tabled_html.specs.Limits.{AreWithinLimits, keep_written}
 use Rattle.tabled_html.specs.Looks.{Look, alignment_in}
-use Rattle.tabled_html.specs.Owners.{owner_in}
+use Rattle.tabled_grid.specs.Owners.{owner_in}
 use Rattle.tabled_html_reading.proofs.Formed.{body-formed, head-and-body-formed}
 use Rattle.tabled_html_reading.proofs.Parsed.{table-parsed}
 use Rattle.tabled_html_reading.specs.Areas.{EndWithin, IsTiled, Tiles, as_body, as_head_and_body, begins, elements_at, rows_between, series}

@@ -12,7 +12,7 @@ use Rattle.std.specs.Option.{option_map}
 use Rattle.tabled_html_reading.specs.Elements.{Element}
 use Rattle.tabled_html_reading.specs.Escaping.{shown}
 use Rattle.tabled_html_reading.specs.Forming.{Cell, Forming, any_below, cells_at, forming_a_table, lacks_anchors}
-use Rattle.tabled_html.specs.Owners.{owner_in}
+use Rattle.tabled_grid.specs.Owners.{owner_in}
 use Rattle.tabled_html.specs.declared.fault.WriteError.{WriteError}
 use Rattle.tabled_html.specs.declared.fault.WriteError.TheVariants.{Failed, OutOfMemory}
 

@@ -2,4 +2,3 @@ pub mod Elements
 pub mod Laws
 pub mod Limits
 pub mod Looks
-pub mod Owners

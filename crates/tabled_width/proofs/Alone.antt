@@ -21,11 +21,11 @@ no_break = refl
 
 pub low-width : (c : ℕ) → c ≤ 0xA0 → character_width c ≡ 1
 unfolding char_width
-low-width c low = by (cases_lt c 0xA0)
+low-width c low = one-column (cases_lt c 0xA0)
   where
-    by : (c < 0xA0) ⊎ (0xA0 ≤ c) → unwrap_or (char_width false c) 1 ≡ 1
-    by (inl less) = grind (arith, nat_tests)
-    by (inr more) =
+    one-column : (c < 0xA0) ⊎ (0xA0 ≤ c) → unwrap_or (char_width false c) 1 ≡ 1
+    one-column (inl less) = grind (arith, nat_tests)
+    one-column (inr more) =
         let is : 0xA0 ≡ c = omega (arith, low, more) in
         subst (λ k. unwrap_or (char_width false k) 1 ≡ 1) is no_break
 

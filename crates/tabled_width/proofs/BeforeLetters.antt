@@ -20,10 +20,10 @@ module _ (a : After) (lig : is_ligature a ≡ true) (y : ℕ) where
 
   low-outcome : (t q u v : Bool) → y ≤ 0xA0 → Outcome y (λ n. past_emoji false y n (state a false t q)) (λ n. past_emoji false y n (state Nothing false u v))
   unfolding past_emoji
-  low-outcome t q u v low = inl (record { same = λ n. rw (keeps.no_feed, le-leb y 0xA0 low) (by n (y == 0x0A) (y == 0x0D)) })
+  low-outcome t q u v low = inl (record { same = λ n. rw (keeps.no_feed, le-leb y 0xA0 low) (same-reading n (y == 0x0A) (y == 0x0D)) })
     where
-      by : (n : ℕ) (b d : Bool) → ◌≡◌ {A = Reading} (cond b (n + 1, before LineFeed) (cond (d && false) (n, plain) (n + 1, plain))) (cond b (n + 1, before LineFeed) (cond (d && false) (n, plain) (n + 1, plain)))
-      by n b d = refl
+      same-reading : (n : ℕ) (b d : Bool) → ◌≡◌ {A = Reading} (cond b (n + 1, before LineFeed) (cond (d && false) (n, plain) (n + 1, plain))) (cond b (n + 1, before LineFeed) (cond (d && false) (n, plain) (n + 1, plain)))
+      same-reading n b d = refl
 
   high-outcome : (t q u v : Bool) → (u ≡ true → t ≡ true) → (v ≡ true → q ≡ true) → 0xA0 < y → Outcome y (λ n. past_emoji false y n (state a false t q)) (λ n. past_emoji false y n (state Nothing false u v))
   unfolding past_emoji
@@ -45,14 +45,14 @@ module _ (a : After) (lig : is_ligature a ≡ true) (y : ℕ) where
   state-outcome : (e t q u v : Bool) → (u ≡ true → t ≡ true) → (v ≡ true → q ≡ true) → Outcome y (λ n. step false y (n, state a e t q)) (λ n. step false y (n, state Nothing e u v))
   unfolding step
   state-outcome false t q u v texts quotes = past-outcome t q u v texts quotes
-  state-outcome true t q u v texts quotes = by (cases_Bool (is_emoji_variation_base y))
+  state-outcome true t q u v texts quotes = base-outcome (cases_Bool (is_emoji_variation_base y))
     where
       keep : if_kept (state a true t q) ≡ state a true t q
       keep = rw keeps.kept refl
 
-      by : (is_emoji_variation_base y ≡ true) ⊎ (is_emoji_variation_base y ≡ false) → Outcome y (λ n. cond (is_emoji_variation_base y) (n + cond (is_joined_emoji a) 0 2, before Emoji) (past_emoji false y n (record (if_kept (state a true t q)) { emoji = false }))) (λ n. cond (is_emoji_variation_base y) (n + 2, before Emoji) (past_emoji false y n (state Nothing false false false)))
-      by (inl is) = inl (record { same = λ n. rw (is, keeps.no_joined) refl })
-      by (inr other) = along y _ _ (λ n. past_emoji false y n (state a false t q)) (λ n. past_emoji false y n (state Nothing false false false)) (λ n. rw (other, keep) refl) (λ n. rw other refl) (past-outcome t q false false (λ e. absurd (false≢true e)) (λ e. absurd (false≢true e)))
+      base-outcome : (is_emoji_variation_base y ≡ true) ⊎ (is_emoji_variation_base y ≡ false) → Outcome y (λ n. cond (is_emoji_variation_base y) (n + cond (is_joined_emoji a) 0 2, before Emoji) (past_emoji false y n (record (if_kept (state a true t q)) { emoji = false }))) (λ n. cond (is_emoji_variation_base y) (n + 2, before Emoji) (past_emoji false y n (state Nothing false false false)))
+      base-outcome (inl is) = inl (record { same = λ n. rw (is, keeps.no_joined) refl })
+      base-outcome (inr other) = along y _ _ (λ n. past_emoji false y n (state a false t q)) (λ n. past_emoji false y n (state Nothing false false false)) (λ n. rw (other, keep) refl) (λ n. rw other refl) (past-outcome t q false false (λ e. absurd (false≢true e)) (λ e. absurd (false≢true e)))
 
 -- any character, by the two states behind it
 pub step-outcome : (y : ℕ) (s p : State) → IsJoining s p → Outcome y (λ n. step false y (n, s)) (λ n. step false y (n, p))
@@ -87,12 +87,12 @@ Attached zs s p = Same zs s p ⊎ (Apart zs s p ⊎ Still zs s p)
 
 attached : (zs : List ℕ) (s p : State) → IsJoining s p → AllByRecursion (λ z. attaches z ≡ true) zs → Attached zs s p
 attached [] s p h all = inr (inr (record { columns = 0; joined = s; unjoined = p; joining = h; with_it = λ n. ap (λ k. (k, s)) (let e : n ≡ n + 0 = omega arith in e); without_it = λ n. ap (λ k. (k, p)) (let e : n ≡ n + 0 = omega arith in e) }))
-attached (z ∷ zs) s p h all = by (attached zs s p h all.1)
+attached (z ∷ zs) s p h all = one-attached (attached zs s p h all.1)
   where
-    by : Attached zs s p → Attached (z ∷ zs) s p
-    by (inl same) = inl (record { same = λ n some. ap (step false z) (same.same n some) })
-    by (inr (inl apart)) = inr (inl (record { apart = λ n some xs e. apart.apart n some (xs ++ z ∷ []) (ap (λ (r : Reading). r.0) (read-append xs (z ∷ []) (read zs n s)) ∙ e ∙ ap (λ (r : Reading). r.0) (sym (read-append xs (z ∷ []) (read zs n p)))) }))
-    by (inr (inr still)) = next (step-outcome z still.joined still.unjoined still.joining)
+    one-attached : Attached zs s p → Attached (z ∷ zs) s p
+    one-attached (inl same) = inl (record { same = λ n some. ap (step false z) (same.same n some) })
+    one-attached (inr (inl apart)) = inr (inl (record { apart = λ n some xs e. apart.apart n some (xs ++ z ∷ []) (ap (λ (r : Reading). r.0) (read-append xs (z ∷ []) (read zs n s)) ∙ e ∙ ap (λ (r : Reading). r.0) (sym (read-append xs (z ∷ []) (read zs n p)))) }))
+    one-attached (inr (inr still)) = next (step-outcome z still.joined still.unjoined still.joining)
       where
         next : Outcome z (λ n. step false z (n, still.joined)) (λ n. step false z (n, still.unjoined)) → Attached (z ∷ zs) s p
         next (inl o) = inl (record { same = λ n some. ap (step false z) (still.with_it n) ∙ o.same (n + still.columns) ∙ ap (step false z) (sym (still.without_it n)) })
@@ -114,12 +114,12 @@ attached (z ∷ zs) s p h all = by (attached zs s p h all.1)
 
 -- a cluster whose columns add up is read as at the end of a line
 pub cluster-same : (x : ℕ) (zs : List ℕ) (s p : State) → IsJoining s p → attaches x ≡ false → AllByRecursion (λ z. attaches z ≡ true) zs → (n : ℕ) → 1 ≤ n → (read_before false (x ∷ zs) (n, s)).0 ≡ (read_before false (x ∷ zs) (n, p)).0 → (m : ℕ) → 1 ≤ m → read_before false (x ∷ zs) (m, s) ≡ read_before false (x ∷ zs) (m, p)
-cluster-same x zs s p h begins all n some e m more = by (attached zs s p h all)
+cluster-same x zs s p h begins all n some e m more = first-same (attached zs s p h all)
   where
-    by : Attached zs s p → read_before false (x ∷ zs) (m, s) ≡ read_before false (x ∷ zs) (m, p)
-    by (inl same) = ap (step false x) (same.same m more)
-    by (inr (inl apart)) = absurd (apart.apart n some (x ∷ []) e)
-    by (inr (inr still)) = next (step-outcome x still.joined still.unjoined still.joining)
+    first-same : Attached zs s p → read_before false (x ∷ zs) (m, s) ≡ read_before false (x ∷ zs) (m, p)
+    first-same (inl same) = ap (step false x) (same.same m more)
+    first-same (inr (inl apart)) = absurd (apart.apart n some (x ∷ []) e)
+    first-same (inr (inr still)) = next (step-outcome x still.joined still.unjoined still.joining)
       where
         next : Outcome x (λ k. step false x (k, still.joined)) (λ k. step false x (k, still.unjoined)) → read_before false (x ∷ zs) (m, s) ≡ read_before false (x ∷ zs) (m, p)
         next (inl o) = ap (step false x) (still.with_it m) ∙ o.same (m + still.columns) ∙ ap (step false x) (sym (still.without_it m))
@@ -132,9 +132,9 @@ cluster-same x zs s p h begins all n some e m more = by (attached zs s p h all)
 
 -- so are characters that attach, where there are no others
 pub attached-same : (zs : List ℕ) (s p : State) → IsJoining s p → AllByRecursion (λ z. attaches z ≡ true) zs → (n : ℕ) → 1 ≤ n → (read_before false zs (n, s)).0 ≡ (read_before false zs (n, p)).0 → (m : ℕ) → 1 ≤ m → (read_before false zs (m, s)).0 ≡ (read_before false zs (m, p)).0
-attached-same zs s p h all n some e m more = by (attached zs s p h all)
+attached-same zs s p h all n some e m more = columns-same (attached zs s p h all)
   where
-    by : Attached zs s p → (read_before false zs (m, s)).0 ≡ (read_before false zs (m, p)).0
-    by (inl same) = ap (λ (r : Reading). r.0) (same.same m more)
-    by (inr (inl apart)) = absurd (apart.apart n some [] e)
-    by (inr (inr still)) = ap (λ (r : Reading). r.0) (still.with_it m) ∙ ap (λ (r : Reading). r.0) (sym (still.without_it m))
+    columns-same : Attached zs s p → (read_before false zs (m, s)).0 ≡ (read_before false zs (m, p)).0
+    columns-same (inl same) = ap (λ (r : Reading). r.0) (same.same m more)
+    columns-same (inr (inl apart)) = absurd (apart.apart n some [] e)
+    columns-same (inr (inr still)) = ap (λ (r : Reading). r.0) (still.with_it m) ∙ ap (λ (r : Reading). r.0) (sym (still.without_it m))

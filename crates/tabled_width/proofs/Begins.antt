@@ -145,14 +145,14 @@ no_low_bases = refl
 no-base : (n k : ℕ) → no_bases n ≡ true → k < n → is_emoji_variation_base k ≡ false
 unfolding no_bases
 no-base zero k h less = absurd (omega (arith, less))
-no-base (suc n) k h less = by (cases_lt k n) (λ before. no-base n k (and_parts (not (is_emoji_variation_base n)) (no_bases n) h).1 before)
+no-base (suc n) k h less = this-or-less (cases_lt k n) (λ before. no-base n k (and_parts (not (is_emoji_variation_base n)) (no_bases n) h).1 before)
   where
     parts : (not (is_emoji_variation_base n) ≡ true) × (no_bases n ≡ true)
     parts = and_parts (not (is_emoji_variation_base n)) (no_bases n) h
 
-    by : (k < n) ⊎ (n ≤ k) → (k < n → is_emoji_variation_base k ≡ false) → is_emoji_variation_base k ≡ false
-    by (inl before) more = more before
-    by (inr after) more = let same : k ≡ n = omega (arith, less, after) in ap is_emoji_variation_base same ∙ not-true (is_emoji_variation_base n) parts.0
+    this-or-less : (k < n) ⊎ (n ≤ k) → (k < n → is_emoji_variation_base k ≡ false) → is_emoji_variation_base k ≡ false
+    this-or-less (inl before) more = more before
+    this-or-less (inr after) more = let same : k ≡ n = omega (arith, less, after) in ap is_emoji_variation_base same ∙ not-true (is_emoji_variation_base n) parts.0
 
 base-above : (d : ℕ) → is_emoji_variation_base d ≡ true → 32 < d
 base-above d h = elim (cases_lt 32 d) [

@@ -36,24 +36,24 @@ Chain (p ∷ ps) = IsSome p × (Next p ps × Chain ps)
 -- the first piece begins as it has begun
 pub from_head : (c : ℕ) (xs cs : List ℕ) → (ys : List ℕ) × (rest : List (List ℕ)) × (pieces_from (c ∷ xs) cs ≡ (c ∷ ys) ∷ rest)
 from_head c xs [] = (xs, [], refl)
-from_head c xs (d ∷ cs) = by (stays (c ∷ xs) d) (from_head c (xs ++ d ∷ []) cs)
+from_head c xs (d ∷ cs) = head-kept (stays (c ∷ xs) d) (from_head c (xs ++ d ∷ []) cs)
   where
-    by : (b : Bool) → (ys : List ℕ) × (rest : List (List ℕ)) × (pieces_from (c ∷ xs ++ d ∷ []) cs ≡ (c ∷ ys) ∷ rest) → (ys : List ℕ) × (rest : List (List ℕ)) × (cond b (pieces_from (c ∷ xs ++ d ∷ []) cs) ((c ∷ xs) ∷ pieces_from (d ∷ []) cs) ≡ (c ∷ ys) ∷ rest)
-    by true more = more
-    by false more = (xs, pieces_from (d ∷ []) cs, refl)
+    head-kept : (b : Bool) → (ys : List ℕ) × (rest : List (List ℕ)) × (pieces_from (c ∷ xs ++ d ∷ []) cs ≡ (c ∷ ys) ∷ rest) → (ys : List ℕ) × (rest : List (List ℕ)) × (cond b (pieces_from (c ∷ xs ++ d ∷ []) cs) ((c ∷ xs) ∷ pieces_from (d ∷ []) cs) ≡ (c ∷ ys) ∷ rest)
+    head-kept true more = more
+    head-kept false more = (xs, pieces_from (d ∷ []) cs, refl)
 
 chain-from : (c : ℕ) (xs cs : List ℕ) → Chain (pieces_from (c ∷ xs) cs)
 chain-from c xs [] = (record { head = c; tail = xs; is = refl }, (tt, tt))
-chain-from c xs (d ∷ cs) = by (stays (c ∷ xs) d) refl (chain-from c (xs ++ d ∷ []) cs) (chain-from d [] cs)
+chain-from c xs (d ∷ cs) = chain-next (stays (c ∷ xs) d) refl (chain-from c (xs ++ d ∷ []) cs) (chain-from d [] cs)
   where
     next : stays (c ∷ xs) d ≡ false → Next (c ∷ xs) (pieces_from (d ∷ []) cs)
     next apart =
         let h = from_head d [] cs in
         subst (Next (c ∷ xs)) (sym h.2) (record { some = record { head = d; tail = h.0; is = refl }; parted = apart })
 
-    by : (b : Bool) → stays (c ∷ xs) d ≡ b → Chain (pieces_from (c ∷ xs ++ d ∷ []) cs) → Chain (pieces_from (d ∷ []) cs) → Chain (cond b (pieces_from (c ∷ xs ++ d ∷ []) cs) ((c ∷ xs) ∷ pieces_from (d ∷ []) cs))
-    by true is more rest = more
-    by false is more rest = (record { head = c; tail = xs; is = refl }, (next is, rest))
+    chain-next : (b : Bool) → stays (c ∷ xs) d ≡ b → Chain (pieces_from (c ∷ xs ++ d ∷ []) cs) → Chain (pieces_from (d ∷ []) cs) → Chain (cond b (pieces_from (c ∷ xs ++ d ∷ []) cs) ((c ∷ xs) ∷ pieces_from (d ∷ []) cs))
+    chain-next true is more rest = more
+    chain-next false is more rest = (record { head = c; tail = xs; is = refl }, (next is, rest))
 
 pub chain : (cs : List ℕ) → Chain (pieces cs)
 chain [] = tt

@@ -34,8 +34,8 @@ module _ (c : ℕ) (low : 31 < c) (high : c < 127) where
 
   pub printable-stays : (last : ℕ) (half : Bool) (cluster : List ℕ) → last ≢ 10 → stays_behind last half cluster c ≡ ((last == 0x200D) && nat_lt 0x20 c)
   printable-stays last half cluster other =
-      rw (ne_eqb c 10 (λ e. omega (arith, e, low)), ne_eqb last 10 other, printable-attaches, printable-indicator, printable-kirat, printable-behind cluster) (by ((last == 0x200D) && nat_lt 0x20 c))
+      rw (ne_eqb c 10 (λ e. omega (arith, e, low)), ne_eqb last 10 other, printable-attaches, printable-indicator, printable-kirat, printable-behind cluster) (or-false ((last == 0x200D) && nat_lt 0x20 c))
     where
-      by : (b : Bool) → (b || false) ≡ b
-      by true = refl
-      by false = refl
+      or-false : (b : Bool) → (b || false) ≡ b
+      or-false true = refl
+      or-false false = refl

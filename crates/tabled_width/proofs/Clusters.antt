@@ -70,16 +70,16 @@ state a e t q = record { after = a; emoji = e; text = t; quote = q }
 
 -- a quotation mark
 record IsMark (y : ℕ) : Type 0 where
-  by_itself : alone false y ≡ (1, plain)
+  alone_is : alone false y ≡ (1, plain)
   alone_stands : attaches y ≡ false
   no_text : is_text_presentation_base y ≡ false
 
 marks : IsMark 0x2018 × (IsMark 0x2019 × (IsMark 0x201C × IsMark 0x201D))
 unfolding unicode_width
-marks = (record { by_itself = refl; alone_stands = refl; no_text = refl }, (record { by_itself = refl; alone_stands = refl; no_text = refl }, (record { by_itself = refl; alone_stands = refl; no_text = refl }, record { by_itself = refl; alone_stands = refl; no_text = refl })))
+marks = (record { alone_is = refl; alone_stands = refl; no_text = refl }, (record { alone_is = refl; alone_stands = refl; no_text = refl }, (record { alone_is = refl; alone_stands = refl; no_text = refl }, record { alone_is = refl; alone_stands = refl; no_text = refl })))
 
 quote-mark : (y : ℕ) → is_quote y ≡ true → IsMark y
-quote-mark y h = by (or_cases (is_in_range 0x2018 0x2019 y) (is_in_range 0x201C 0x201D y) h)
+quote-mark y h = mark-in (or_cases (is_in_range 0x2018 0x2019 y) (is_in_range 0x201C 0x201D y) h)
   where
     two : (k : ℕ) → is_in_range k (k + 1) y ≡ true → (y ≡ k) ⊎ (y ≡ k + 1)
     two k r = elim (cases_lt k y) [
@@ -87,9 +87,9 @@ quote-mark y h = by (or_cases (is_in_range 0x2018 0x2019 y) (is_in_range 0x201C 
       | inr less ↦ inl (grind (arith, nat_tests))
     ]
 
-    by : (is_in_range 0x2018 0x2019 y ≡ true) ⊎ (is_in_range 0x201C 0x201D y ≡ true) → IsMark y
-    by (inl r) = elim (two 0x2018 r) [ inl e ↦ subst IsMark (sym e) marks.0 | inr e ↦ subst IsMark (sym e) marks.1.0 ]
-    by (inr r) = elim (two 0x201C r) [ inl e ↦ subst IsMark (sym e) marks.1.1.0 | inr e ↦ subst IsMark (sym e) marks.1.1.1 ]
+    mark-in : (is_in_range 0x2018 0x2019 y ≡ true) ⊎ (is_in_range 0x201C 0x201D y ≡ true) → IsMark y
+    mark-in (inl r) = elim (two 0x2018 r) [ inl e ↦ subst IsMark (sym e) marks.0 | inr e ↦ subst IsMark (sym e) marks.1.0 ]
+    mark-in (inr r) = elim (two 0x201C r) [ inl e ↦ subst IsMark (sym e) marks.1.1.0 | inr e ↦ subst IsMark (sym e) marks.1.1.1 ]
 
 of_emoji_kind : (c : ℕ) (k : Kind) → is_emoji_kind k ≡ true → of_kind false c k ≡ (2, before Emoji)
 of_emoji_kind c kinds.Emoji h = refl
@@ -237,26 +237,26 @@ module _ (a : After) (lig : is_ligature a ≡ true) (y : ℕ) (high : 0xA0 < y) 
   shown-outcome free false true false false texts quotes true false base mark = passes y high free a lig
   shown-outcome free false false false true texts quotes true false base mark = passes y high free a lig
   shown-outcome free false false false false texts quotes true false base mark = passes y high free a lig
-  shown-outcome free t q u v texts quotes false true base mark = by t q u v texts quotes
+  shown-outcome free t q u v texts quotes false true base mark = quote-outcome t q u v texts quotes
     where
-      by : (t q u v : Bool) → (u ≡ true → t ≡ true) → (v ≡ true → q ≡ true) → Outcome y (λ n. cond (t && false) (n + 1, plain) (cond (q && true) (n + 2, plain) (past_selectors false y n a))) (λ n. cond (u && false) (n + 1, plain) (cond (v && true) (n + 2, plain) (added n (alone false y))))
-      by true true true true p r = inl (record { same = λ n. refl })
-      by true true false true p r = inl (record { same = λ n. refl })
-      by false true true true p r = inl (record { same = λ n. refl })
-      by false true false true p r = inl (record { same = λ n. refl })
-      by true true true false p r = inr (inr (inr (record { apart = (quote-mark y mark).alone_stands; differ = λ n some e. omega (arith, e, ap (λ (r : ℕ × State). r.0) (quote-mark y mark).by_itself) })))
-      by true true false false p r = inr (inr (inr (record { apart = (quote-mark y mark).alone_stands; differ = λ n some e. omega (arith, e, ap (λ (r : ℕ × State). r.0) (quote-mark y mark).by_itself) })))
-      by false true true false p r = inr (inr (inr (record { apart = (quote-mark y mark).alone_stands; differ = λ n some e. omega (arith, e, ap (λ (r : ℕ × State). r.0) (quote-mark y mark).by_itself) })))
-      by false true false false p r = inr (inr (inr (record { apart = (quote-mark y mark).alone_stands; differ = λ n some e. omega (arith, e, ap (λ (r : ℕ × State). r.0) (quote-mark y mark).by_itself) })))
-      by t false u true p r = absurd (false≢true (r refl))
-      by true false true false p r = passes y high free a lig
-      by true false false false p r = passes y high free a lig
-      by false false true false p r = passes y high free a lig
-      by false false false false p r = passes y high free a lig
-  shown-outcome free t q u v texts quotes false false base mark = by t q u v
+      quote-outcome : (t q u v : Bool) → (u ≡ true → t ≡ true) → (v ≡ true → q ≡ true) → Outcome y (λ n. cond (t && false) (n + 1, plain) (cond (q && true) (n + 2, plain) (past_selectors false y n a))) (λ n. cond (u && false) (n + 1, plain) (cond (v && true) (n + 2, plain) (added n (alone false y))))
+      quote-outcome true true true true p r = inl (record { same = λ n. refl })
+      quote-outcome true true false true p r = inl (record { same = λ n. refl })
+      quote-outcome false true true true p r = inl (record { same = λ n. refl })
+      quote-outcome false true false true p r = inl (record { same = λ n. refl })
+      quote-outcome true true true false p r = inr (inr (inr (record { apart = (quote-mark y mark).alone_stands; differ = λ n some e. omega (arith, e, ap (λ (r : ℕ × State). r.0) (quote-mark y mark).alone_is) })))
+      quote-outcome true true false false p r = inr (inr (inr (record { apart = (quote-mark y mark).alone_stands; differ = λ n some e. omega (arith, e, ap (λ (r : ℕ × State). r.0) (quote-mark y mark).alone_is) })))
+      quote-outcome false true true false p r = inr (inr (inr (record { apart = (quote-mark y mark).alone_stands; differ = λ n some e. omega (arith, e, ap (λ (r : ℕ × State). r.0) (quote-mark y mark).alone_is) })))
+      quote-outcome false true false false p r = inr (inr (inr (record { apart = (quote-mark y mark).alone_stands; differ = λ n some e. omega (arith, e, ap (λ (r : ℕ × State). r.0) (quote-mark y mark).alone_is) })))
+      quote-outcome t false u true p r = absurd (false≢true (r refl))
+      quote-outcome true false true false p r = passes y high free a lig
+      quote-outcome true false false false p r = passes y high free a lig
+      quote-outcome false false true false p r = passes y high free a lig
+      quote-outcome false false false false p r = passes y high free a lig
+  shown-outcome free t q u v texts quotes false false base mark = plain-outcome t q u v
     where
-      by : (t q u v : Bool) → Outcome y (λ n. cond (t && false) (n + 1, plain) (cond (q && false) (n + 2, plain) (past_selectors false y n a))) (λ n. cond (u && false) (n + 1, plain) (cond (v && false) (n + 2, plain) (added n (alone false y))))
-      by t q u v = along y _ _ (λ n. past_selectors false y n a) (λ n. added n (alone false y)) (λ n. none t q (n + 1, plain) (n + 2, plain) (past_selectors false y n a)) (λ n. none u v (n + 1, plain) (n + 2, plain) (added n (alone false y))) (passes y high free a lig)
+      plain-outcome : (t q u v : Bool) → Outcome y (λ n. cond (t && false) (n + 1, plain) (cond (q && false) (n + 2, plain) (past_selectors false y n a))) (λ n. cond (u && false) (n + 1, plain) (cond (v && false) (n + 2, plain) (added n (alone false y))))
+      plain-outcome t q u v = along y _ _ (λ n. past_selectors false y n a) (λ n. added n (alone false y)) (λ n. none t q (n + 1, plain) (n + 2, plain) (past_selectors false y n a)) (λ n. none u v (n + 1, plain) (n + 2, plain) (added n (alone false y))) (passes y high free a lig)
         where
           none : (t q : Bool) (x z w : Reading) → cond (t && false) x (cond (q && false) z w) ≡ w
           none true true x z w = refl
@@ -265,7 +265,7 @@ module _ (a : After) (lig : is_ligature a ≡ true) (y : ℕ) (high : 0xA0 < y) 
           none false false x z w = refl
 
   pub context-outcome : (t q u v : Bool) → (u ≡ true → t ≡ true) → (v ≡ true → q ≡ true) → Outcome y (λ n. in_context false y n (state a false t q)) (without y u v)
-  context-outcome t q u v texts quotes = by (cases_Bool (y == 0xFE0F)) (cases_Bool (y == 0xFE01)) (cases_Bool (y == 0xFE0E))
+  context-outcome t q u v texts quotes = selected-outcome (cases_Bool (y == 0xFE0F)) (cases_Bool (y == 0xFE01)) (cases_Bool (y == 0xFE0E))
     where
       keeps : IsKept a
       keeps = kept a lig
@@ -273,10 +273,10 @@ module _ (a : After) (lig : is_ligature a ≡ true) (y : ℕ) (high : 0xA0 < y) 
       Wanted : ℕ → Type 0
       Wanted k = Outcome k (λ n. in_context false k n (state a false t q)) (without k u v)
 
-      by : ((y == 0xFE0F) ≡ true) ⊎ ((y == 0xFE0F) ≡ false) → ((y == 0xFE01) ≡ true) ⊎ ((y == 0xFE01) ≡ false) → ((y == 0xFE0E) ≡ true) ⊎ ((y == 0xFE0E) ≡ false) → Wanted y
-      by (inl is) z w = subst Wanted (sym (eqb-true y 0xFE0F is)) (emoji-selected a lig keeps t q u v)
-      by (inr other) (inl is) w = subst Wanted (sym (eqb-true y 0xFE01 is)) (quote-selected a lig keeps t q u v)
-      by (inr other) (inr another) (inl is) = subst Wanted (sym (eqb-true y 0xFE0E is)) (text-selected a lig keeps t q u v)
-      by (inr other) (inr another) (inr third) =
+      selected-outcome : ((y == 0xFE0F) ≡ true) ⊎ ((y == 0xFE0F) ≡ false) → ((y == 0xFE01) ≡ true) ⊎ ((y == 0xFE01) ≡ false) → ((y == 0xFE0E) ≡ true) ⊎ ((y == 0xFE0E) ≡ false) → Wanted y
+      selected-outcome (inl is) z w = subst Wanted (sym (eqb-true y 0xFE0F is)) (emoji-selected a lig keeps t q u v)
+      selected-outcome (inr other) (inl is) w = subst Wanted (sym (eqb-true y 0xFE01 is)) (quote-selected a lig keeps t q u v)
+      selected-outcome (inr other) (inr another) (inl is) = subst Wanted (sym (eqb-true y 0xFE0E is)) (text-selected a lig keeps t q u v)
+      selected-outcome (inr other) (inr another) (inr third) =
           let free : IsNoSelector y = record { no_emoji = eqb-false y 0xFE0F other; no_text = eqb-false y 0xFE0E third; no_quote = eqb-false y 0xFE01 another } in
           along y _ _ (shown_as y t q (λ m. past_selectors false y m a)) (shown_as y u v (λ m. added m (alone false y))) (with-is a y free t q) (without-is y free u v) (shown-outcome free t q u v texts quotes (is_text_presentation_base y) (is_quote y) refl refl)

@@ -175,10 +175,10 @@ all-more [] c h all = (h, tt)
 all-more (z ∷ zs) c h all = (all.0, all-more zs c h all.1)
 
 clustered-more : (piece : List ℕ) (c : ℕ) → Clustered piece → Clustered (piece ++ c ∷ [])
-clustered-more piece c h = by (cases_Bool (attaches c))
+clustered-more piece c h = with-character (cases_Bool (attaches c))
   where
-    by : (attaches c ≡ true) ⊎ (attaches c ≡ false) → Clustered (piece ++ c ∷ [])
-    by (inl is) =
+    with-character : (attaches c ≡ true) ⊎ (attaches c ≡ false) → Clustered (piece ++ c ∷ [])
+    with-character (inl is) =
         let cluster : last_cluster (piece ++ c ∷ []) ≡ last_cluster piece ++ c ∷ [] = more-cluster piece c ∙ rw is refl in
         record {
           front = h.front;
@@ -188,7 +188,7 @@ clustered-more piece c h = by (cases_Bool (attaches c))
             | inr s ↦ inr (s.0, subst (AllByRecursion (λ z. attaches z ≡ true)) (sym cluster) (all-more (last_cluster piece) c is s.1))
           ];
         }
-    by (inr begins) =
+    with-character (inr begins) =
         let cluster : last_cluster (piece ++ c ∷ []) ≡ c ∷ [] = more-cluster piece c ∙ rw begins refl in
         record {
           front = piece;
@@ -213,10 +213,10 @@ last-only front y b bare free n = ap (λ (r : Reading). r.0) (read-end front y (
 
 module _ (piece : List ℕ) (d : ℕ) (is : IsCut piece d) where
   letter-adds : (r : Reading) → BeginsLetter d r → Adds piece r
-  letter-adds r h = by (clustered piece)
+  letter-adds r h = shape-adds (clustered piece)
     where
       own : step false d (0, plain) ≡ (0 + (alone false d).0, before h.after)
-      own = step-plain d h.high 0 ∙ ap (λ s. (0 + (alone false d).0, s)) h.by_itself
+      own = step-plain d h.high 0 ∙ ap (λ s. (0 + (alone false d).0, s)) h.alone_before
 
       n : ℕ
       n = 0 + (alone false d).0
@@ -235,8 +235,8 @@ module _ (piece : List ℕ) (d : ℕ) (is : IsCut piece d) where
       whole : r ≡ (r.0, before h.after)
       whole = ap (λ s. (r.0, s)) h.state
 
-      by : Clustered piece → Adds piece r
-      by c = elim c.shape [
+      shape-adds : Clustered piece → Adds piece r
+      shape-adds c = elim c.shape [
         | inl s ↦
             let same : read_before false cluster (r.0, before h.after) ≡ read_before false cluster (r.0, plain) =
             subst (λ cs. read_before false cs (r.0, before h.after) ≡ read_before false cs (r.0, plain)) (sym s.2)
@@ -258,16 +258,16 @@ adds c cs d is r (inr (inl emoji)) =
     let e = ended c cs in
     let apart : e.end ≢ 0x200D = λ h. is.joiner emoji.above (ap last_of e.is ∙ more-last e.front e.end ∙ h) in
     ap (λ s. (read_before false (c ∷ cs) (r.0, s)).0) emoji.state ∙ subst (λ xs. Adds xs (r.0, before Emoji)) (sym e.is) (last-only e.front e.end Emoji bare_emoji (emoji-free e.end apart) r.0)
-adds c cs d is r (inr (inr (inl f))) = by (ended c cs) (cases_Bool (is_indicator (ended c cs).end))
+adds c cs d is r (inr (inr (inl f))) = ended-adds (ended c cs) (cases_Bool (is_indicator (ended c cs).end))
   where
     above : 32 < d
     above = grind (arith, nat_tests, f.indicator)
 
-    by : (e : Ended (c ∷ cs)) → (is_indicator e.end ≡ true) ⊎ (is_indicator e.end ≡ false) → Adds (c ∷ cs) r
-    by e (inl second) =
+    ended-adds : (e : Ended (c ∷ cs)) → (is_indicator e.end ≡ true) ⊎ (is_indicator e.end ≡ false) → Adds (c ∷ cs) r
+    ended-adds e (inl second) =
         ap (λ s. (read_before false (c ∷ cs) (r.0, s)).0) f.state
         ∙ subst (λ xs. Adds xs (r.0, before f.after)) (sym e.is) (flags-same e.front e.end second (ap ends_in_half_a_flag (sym e.is) ∙ is.flag f.indicator) f.after f.flag r.0 f.some)
-    by e (inr other) =
+    ended-adds e (inr other) =
         let apart : e.end ≢ 0x200D = λ h. is.joiner above (ap last_of e.is ∙ more-last e.front e.end ∙ h) in
         ap (λ s. (read_before false (c ∷ cs) (r.0, s)).0) f.state
         ∙ subst (λ xs. Adds xs (r.0, before f.after)) (sym e.is) (last-only e.front e.end f.after (bare_flag f.after f.flag) (flag-free f.after f.flag e.end other apart) r.0)

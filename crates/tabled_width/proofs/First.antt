@@ -56,7 +56,7 @@ pub record BeginsLetter (d : ℕ) (r : Reading) : Type 0 where
   pub after : After
   pub letter : is_ligature after ≡ true
   pub state : r.1 ≡ before after
-  pub by_itself : (alone false d).1 ≡ before after
+  pub alone_before : (alone false d).1 ≡ before after
   pub some : 1 ≤ r.0
 
 abbrev pub First : ℕ → Reading → Type 0
@@ -83,7 +83,7 @@ module _ (d : ℕ) (high : 0xA0 < d) (begins : attaches d ≡ false) where
   -- ---- by itself
 
   letter-alone : (a : After) → is_ligature a ≡ true → (n k : ℕ) → 1 ≤ k → (alone false d).1 ≡ before a → First d (n + k, before a)
-  letter-alone a lig n k some e = inr (inr (inr (inr (record { high = high; after = a; letter = lig; state = refl; by_itself = e; some = omega (arith, some) }))))
+  letter-alone a lig n k some e = inr (inr (inr (inr (record { high = high; after = a; letter = lig; state = refl; alone_before = e; some = omega (arith, some) }))))
 
   vowel-alone : (a : After) → is_vowel a ≡ true → (n : ℕ) → is_kirat_vowel d ≡ true → First d (n, before a)
   vowel-alone a v n is = inr (inr (inr (inl (record { kirat = is; after = a; vowel = v; state = refl }))))
@@ -168,12 +168,12 @@ IsAllowed d (Some j) = allowed d j.0 j.1 ≡ true
 
 alef_allowed : (d : ℕ) (a b c : Bool) → IsAllowed d (cond a (Some (Same, Nothing)) (cond (((alone false d).0 == 0) && c) (Some (Same, Alef)) None))
 alef_allowed d true b c = refl
-alef_allowed d false b c = by ((alone false d).0 == 0) refl c
+alef_allowed d false b c = zero_allowed ((alone false d).0 == 0) refl c
   where
-    by : (e : Bool) → ((alone false d).0 == 0) ≡ e → (c : Bool) → IsAllowed d (cond (e && c) (Some (Same, Alef)) None)
-    by true is true = is
-    by true is false = tt
-    by false is c = tt
+    zero_allowed : (e : Bool) → ((alone false d).0 == 0) ≡ e → (c : Bool) → IsAllowed d (cond (e && c) (Some (Same, Alef)) None)
+    zero_allowed true is true = is
+    zero_allowed true is false = tt
+    zero_allowed false is c = tt
 
 pub joins-allowed : (a : After) (d : ℕ) → IsAllowed d (joins false a d)
 unfolding joins before_alef

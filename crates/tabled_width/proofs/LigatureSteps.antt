@@ -11,6 +11,7 @@ use Rattle.unicode_width.specs.Kind.{is_ligature_transparent}
 use Rattle.unicode_width.specs.Width.{added, alone, before, before_alef, first_of, is_lam, is_tifinagh, joined_or, joins, past_selectors, plain, skips_marks, with_joiner}
 use Rattle.unicode_width.specs.declared.state.After.{After}
 use Rattle.unicode_width.specs.declared.state.After.TheVariants.{Nothing, Alef, Lamed, ZwjLamed, Ya, ZwjYa, VowelZwjYa, Tifinagh, ZwjTifinagh, JoinerTifinagh, LisuTone, OrkhonI, ZwjOrkhonI, KhmerLetter, LineFeed, EmojiModifier, RegionalIndicator, RegionalIndicators, Emoji, ZwjEmoji, KeycapZwjEmoji, IndicatorZwj, EvenIndicatorsZwj, OddIndicatorsZwj, TagEnd, TagDigit1, TagDigit2, TagDigit3, TagLetter1, TagLetter2, TagLetter3, TagLetter4, TagLetter5, TagLetter6, KiratE, KiratAi, Solidus, SolidusAlef}
+use Rattle.unicode_width.specs.declared.state.Change.{Change}
 use Rattle.unicode_width.specs.declared.state.Change.TheVariants.{Less, Same, One}
 
 module _ (y : ℕ) (high : 0xA0 < y) (free : IsNoSelector y) where
@@ -21,11 +22,11 @@ module _ (y : ℕ) (high : 0xA0 < y) (free : IsNoSelector y) where
       ends-same y high free (λ e. joiner (sym at ∙ e)) (ap (is_in_range 0x1F3FB 0x1F3FF) at ∙ tone)
 
   tifinagh_apart : is_tifinagh y ≡ true → (y ≢ 0x2D7F) × (is_in_range 0x1F3FB 0x1F3FF y ≡ false)
-  tifinagh_apart h = (by (or_cases (is_in_range 0x2D31 0x2D65 y) (y == 0x2D6F) h), tone (or_cases (is_in_range 0x2D31 0x2D65 y) (y == 0x2D6F) h))
+  tifinagh_apart h = (no_joiner (or_cases (is_in_range 0x2D31 0x2D65 y) (y == 0x2D6F) h), tone (or_cases (is_in_range 0x2D31 0x2D65 y) (y == 0x2D6F) h))
     where
-      by : (is_in_range 0x2D31 0x2D65 y ≡ true) ⊎ ((y == 0x2D6F) ≡ true) → y ≢ 0x2D7F
-      by (inl r) e = false≢true (sym (let no_range : is_in_range 0x2D31 0x2D65 0x2D7F ≡ false = refl in no_range) ∙ ap (is_in_range 0x2D31 0x2D65) (sym e) ∙ r)
-      by (inr r) e = let at : y ≡ 0x2D6F = eqb-true y 0x2D6F r in omega (arith, at, e)
+      no_joiner : (is_in_range 0x2D31 0x2D65 y ≡ true) ⊎ ((y == 0x2D6F) ≡ true) → y ≢ 0x2D7F
+      no_joiner (inl r) e = false≢true (sym (let no_range : is_in_range 0x2D31 0x2D65 0x2D7F ≡ false = refl in no_range) ∙ ap (is_in_range 0x2D31 0x2D65) (sym e) ∙ r)
+      no_joiner (inr r) e = let at : y ≡ 0x2D6F = eqb-true y 0x2D6F r in omega (arith, at, e)
 
       tone : (is_in_range 0x2D31 0x2D65 y ≡ true) ⊎ ((y == 0x2D6F) ≡ true) → is_in_range 0x1F3FB 0x1F3FF y ≡ false
       tone (inl r) = grind (arith, nat_tests)
@@ -42,78 +43,51 @@ module _ (y : ℕ) (high : 0xA0 < y) (free : IsNoSelector y) where
   abbrev Joined : After → Type 0
   Joined a = Ends y high free (joins false a y)
 
+  -- a change that a test decides, with none behind it
+  ends-first : (b : Bool) (change : Change) (after : After) → (b ≡ true → Ends y high free (Some (change, after))) → Ends y high free (first_of (cond b (Some (change, after)) None) None)
+  ends-first true change after then = then refl
+  ends-first false change after then = ends-none y high free
+
   joined-lamed : Joined ZwjLamed
   unfolding joins
-  joined-lamed = go (y == 0x05D0) (same_at 0x05D0 (λ e. omega (arith, e)) refl)
-    where
-      go : (b : Bool) → (b ≡ true → Ends y high free (Some (Same, Nothing))) → Ends y high free (first_of (cond b (Some (Same, Nothing)) None) None)
-      go true then = then refl
-      go false then = ends-none y high free
+  joined-lamed = ends-first (y == 0x05D0) Same Nothing (same_at 0x05D0 (λ e. omega (arith, e)) refl)
 
   joined-khmer : Joined KhmerLetter
   unfolding joins
-  joined-khmer = go (y == 0x17D2) (λ h. let at : y ≡ 0x17D2 = eqb-true y 0x17D2 h in ends-less y high free (λ e. omega (arith, at, e)) (ap (is_in_range 0x1F3FB 0x1F3FF) at))
-    where
-      go : (b : Bool) → (b ≡ true → Ends y high free (Some (Less, Nothing))) → Ends y high free (first_of (cond b (Some (Less, Nothing)) None) None)
-      go true then = then refl
-      go false then = ends-none y high free
+  joined-khmer = ends-first (y == 0x17D2) Less Nothing (λ h. let at : y ≡ 0x17D2 = eqb-true y 0x17D2 h in ends-less y high free (λ e. omega (arith, at, e)) (ap (is_in_range 0x1F3FB 0x1F3FF) at))
 
   joined-ya : Joined ZwjYa
   unfolding joins
-  joined-ya = go (y == 0x1A17) (λ h. let at : y ≡ 0x1A17 = eqb-true y 0x1A17 h in ends-goes y high free Same VowelZwjYa 0 (ap attaches at ∙ buginese_vowel.1) refl (ap (alone false) at ∙ buginese_vowel.0) no-more)
-    where
-      go : (b : Bool) → (b ≡ true → Ends y high free (Some (Same, VowelZwjYa))) → Ends y high free (first_of (cond b (Some (Same, VowelZwjYa)) None) None)
-      go true then = then refl
-      go false then = ends-none y high free
+  joined-ya = ends-first (y == 0x1A17) Same VowelZwjYa (λ h. let at : y ≡ 0x1A17 = eqb-true y 0x1A17 h in ends-goes y high free Same VowelZwjYa 0 (ap attaches at ∙ buginese_vowel.1) refl (ap (alone false) at ∙ buginese_vowel.0) no-more)
 
   joined-vowel : Joined VowelZwjYa
   unfolding joins
-  joined-vowel = go (y == 0x1A15) (same_at 0x1A15 (λ e. omega (arith, e)) refl)
-    where
-      go : (b : Bool) → (b ≡ true → Ends y high free (Some (Same, Nothing))) → Ends y high free (first_of (cond b (Some (Same, Nothing)) None) None)
-      go true then = then refl
-      go false then = ends-none y high free
+  joined-vowel = ends-first (y == 0x1A15) Same Nothing (same_at 0x1A15 (λ e. omega (arith, e)) refl)
 
   joined-orkhon : Joined ZwjOrkhonI
   unfolding joins
-  joined-orkhon = go (y == 0x10C32) (same_at 0x10C32 (λ e. omega (arith, e)) refl)
-    where
-      go : (b : Bool) → (b ≡ true → Ends y high free (Some (Same, Nothing))) → Ends y high free (first_of (cond b (Some (Same, Nothing)) None) None)
-      go true then = then refl
-      go false then = ends-none y high free
+  joined-orkhon = ends-first (y == 0x10C32) Same Nothing (same_at 0x10C32 (λ e. omega (arith, e)) refl)
 
   joined-lisu : Joined LisuTone
   unfolding joins
-  joined-lisu = go (is_in_range 0xA4F8 0xA4FB y) (λ h. let apart = lisu_apart h in ends-same y high free apart.0 apart.1)
-    where
-      go : (b : Bool) → (b ≡ true → Ends y high free (Some (Same, Nothing))) → Ends y high free (first_of (cond b (Some (Same, Nothing)) None) None)
-      go true then = then refl
-      go false then = ends-none y high free
+  joined-lisu = ends-first (is_in_range 0xA4F8 0xA4FB y) Same Nothing (λ h. let apart = lisu_apart h in ends-same y high free apart.0 apart.1)
 
   joined-joiner : Joined JoinerTifinagh
   unfolding joins
-  joined-joiner = go (is_tifinagh y) (λ h. let apart = tifinagh_apart h in ends-less y high free apart.0 apart.1)
-    where
-      go : (b : Bool) → (b ≡ true → Ends y high free (Some (Less, Nothing))) → Ends y high free (first_of (cond b (Some (Less, Nothing)) None) None)
-      go true then = then refl
-      go false then = ends-none y high free
+  joined-joiner = ends-first (is_tifinagh y) Less Nothing (λ h. let apart = tifinagh_apart h in ends-less y high free apart.0 apart.1)
 
   joined-tifinagh : Joined Tifinagh
   unfolding joins
-  joined-tifinagh = go (y == 0x2D7F) joiner_goes
-    where
-      go : (b : Bool) → (b ≡ true → Ends y high free (Some (One, JoinerTifinagh))) → Ends y high free (first_of (cond b (Some (One, JoinerTifinagh)) None) None)
-      go true then = then refl
-      go false then = ends-none y high free
+  joined-tifinagh = ends-first (y == 0x2D7F) One JoinerTifinagh joiner_goes
 
   joined-zwj_tifinagh : Joined ZwjTifinagh
   unfolding joins
-  joined-zwj_tifinagh = go (y == 0x2D7F) (is_tifinagh y) joiner_goes (λ h. let apart = tifinagh_apart h in ends-same y high free apart.0 apart.1)
+  joined-zwj_tifinagh = same-or-one (y == 0x2D7F) (is_tifinagh y) joiner_goes (λ h. let apart = tifinagh_apart h in ends-same y high free apart.0 apart.1)
     where
-      go : (b d : Bool) → (b ≡ true → Ends y high free (Some (One, JoinerTifinagh))) → (d ≡ true → Ends y high free (Some (Same, Nothing))) → Ends y high free (first_of (cond b (Some (One, JoinerTifinagh)) (cond d (Some (Same, Nothing)) None)) None)
-      go true d then more = then refl
-      go false true then more = more refl
-      go false false then more = ends-none y high free
+      same-or-one : (b d : Bool) → (b ≡ true → Ends y high free (Some (One, JoinerTifinagh))) → (d ≡ true → Ends y high free (Some (Same, Nothing))) → Ends y high free (first_of (cond b (Some (One, JoinerTifinagh)) (cond d (Some (Same, Nothing)) None)) None)
+      same-or-one true d then more = then refl
+      same-or-one false true then more = more refl
+      same-or-one false false then more = ends-none y high free
 
   -- whatever else is asked of the marks before an alef
   alef_ends : (also : Bool) → Ends y high free (cond (is_lam y) (Some (Same, Nothing)) (cond (((alone false y).0 == 0) && also) (Some (Same, Alef)) None))
@@ -137,13 +111,13 @@ module _ (y : ℕ) (high : 0xA0 < y) (free : IsNoSelector y) where
 
   passes-marks : (a : After) → skips_marks a ≡ true → is_ligature a ≡ true → is_ligature (with_joiner a) ≡ true → Joined a → Passes a
   unfolding past_selectors
-  passes-marks a skips ligature with_it rest = by (cases_Bool (y == 0x200D)) (cases_Bool (is_ligature_transparent y))
+  passes-marks a skips ligature with_it rest = past-mark (cases_Bool (y == 0x200D)) (cases_Bool (is_ligature_transparent y))
     where
       Past : Type 0
       Past = Outcome y (λ t. cond (skips_marks a && (y == 0x200D)) (t, before (with_joiner a)) (cond (skips_marks a && is_ligature_transparent y) (t, before a) (joined_or t (joins false a y) (alone false y)))) (λ t. added t (alone false y))
 
-      by : ((y == 0x200D) ≡ true) ⊎ ((y == 0x200D) ≡ false) → (is_ligature_transparent y ≡ true) ⊎ (is_ligature_transparent y ≡ false) → Past
-      by (inl is) q =
+      past-mark : ((y == 0x200D) ≡ true) ⊎ ((y == 0x200D) ≡ false) → (is_ligature_transparent y ≡ true) ⊎ (is_ligature_transparent y ≡ false) → Past
+      past-mark (inl is) q =
           let at : y ≡ 0x200D = eqb-true y 0x200D is in
           inr (inl (record {
             attached = ap attaches at ∙ zero_joiner.1;
@@ -154,7 +128,7 @@ module _ (y : ℕ) (high : 0xA0 < y) (free : IsNoSelector y) where
             with_it = λ t. rw (skips, is) (ap (λ k. (k, before (with_joiner a))) (no-more t));
             without = λ t. ap (added t) (ap (alone false) at ∙ zero_joiner.0);
           }))
-      by (inr other) (inl is) =
+      past-mark (inr other) (inl is) =
           let none = transparent-zero y is in
           inr (inl (record {
             attached = zero_attaches none;
@@ -165,7 +139,7 @@ module _ (y : ℕ) (high : 0xA0 < y) (free : IsNoSelector y) where
             with_it = λ t. rw (skips, other, is) (ap (λ k. (k, before a)) (no-more t));
             without = λ t. ap (added t) (zero-alone y free none);
           }))
-      by (inr other) (inr unmarked) = along y _ _ (λ t. joined_or t (joins false a y) (alone false y)) (λ t. added t (alone false y)) (λ t. rw (skips, other, unmarked) refl) (λ t. refl) rest
+      past-mark (inr other) (inr unmarked) = along y _ _ (λ t. joined_or t (joins false a y) (alone false y)) (λ t. added t (alone false y)) (λ t. rw (skips, other, unmarked) refl) (λ t. refl) rest
 
   passes-alef : Passes Alef
   unfolding past_selectors

@@ -155,9 +155,9 @@ lam-no_tone y is =
     let c = lam-apart y 0x1F3FD is not_lams.1.1.1.0 in
     let d = lam-apart y 0x1F3FE is not_lams.1.1.1.1.0 in
     let e = lam-apart y 0x1F3FF is not_lams.1.1.1.1.1 in
-    by (cases_lt y 0x1F3FB) (cases_lt 0x1F3FF y) a b c d e
+    no_tone (cases_lt y 0x1F3FB) (cases_lt 0x1F3FF y) a b c d e
   where
-    by : (y < 0x1F3FB) ⊎ (0x1F3FB ≤ y) → (0x1F3FF < y) ⊎ (y ≤ 0x1F3FF) → y ≢ 0x1F3FB → y ≢ 0x1F3FC → y ≢ 0x1F3FD → y ≢ 0x1F3FE → y ≢ 0x1F3FF → is_in_range 0x1F3FB 0x1F3FF y ≡ false
-    by (inl low) h a b c d e = grind (arith, nat_tests)
-    by (inr low) (inl h) a b c d e = grind (arith, nat_tests)
-    by (inr low) (inr h) a b c d e = absurd (omega arith)
+    no_tone : (y < 0x1F3FB) ⊎ (0x1F3FB ≤ y) → (0x1F3FF < y) ⊎ (y ≤ 0x1F3FF) → y ≢ 0x1F3FB → y ≢ 0x1F3FC → y ≢ 0x1F3FD → y ≢ 0x1F3FE → y ≢ 0x1F3FF → is_in_range 0x1F3FB 0x1F3FF y ≡ false
+    no_tone (inl low) h a b c d e = grind (arith, nat_tests)
+    no_tone (inr low) (inl h) a b c d e = grind (arith, nat_tests)
+    no_tone (inr low) (inr h) a b c d e = absurd (omega arith)

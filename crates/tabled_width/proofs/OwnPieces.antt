@@ -15,12 +15,12 @@ use Rattle.tabled_width.specs.WrapLaws.{lines_in}
 pub stays-newline : (piece : List ℕ) (c : ℕ) → stays piece c ≡ true → (c ≢ 10) × (last_of piece ≢ 10)
 stays-newline piece c h =
     let parts = and_parts (not ((c == 10) || (last_of piece == 10))) (belongs (last_of piece) (ends_in_half_a_flag piece) (last_cluster piece) c) h in
-    (λ e. false≢true (sym (by (c == 10) (last_of piece == 10) parts.0).0 ∙ ap (λ x. x == 10) e), λ e. false≢true (sym (by (c == 10) (last_of piece == 10) parts.0).1 ∙ ap (λ x. x == 10) e))
+    (λ e. false≢true (sym (both-false (c == 10) (last_of piece == 10) parts.0).0 ∙ ap (λ x. x == 10) e), λ e. false≢true (sym (both-false (c == 10) (last_of piece == 10) parts.0).1 ∙ ap (λ x. x == 10) e))
   where
-    by : (a b : Bool) → not (a || b) ≡ true → (a ≡ false) × (b ≡ false)
-    by false false h = (refl, refl)
-    by true b h = absurd (false≢true h)
-    by false true h = absurd (false≢true h)
+    both-false : (a b : Bool) → not (a || b) ≡ true → (a ≡ false) × (b ≡ false)
+    both-false false false h = (refl, refl)
+    both-false true b h = absurd (false≢true h)
+    both-false false true h = absurd (false≢true h)
 
 pub line-more : (xs : List ℕ) (c : ℕ) → IsLine xs → c ≢ 10 → IsLine (xs ++ c ∷ [])
 line-more [] c h other = rw (ne_eqb c 10 other) refl
@@ -36,18 +36,18 @@ pub record IsPiece (p : List ℕ) : Type 0 where
 
 -- a piece that has begun, and a character that stays in it
 one_more : (piece xs : List ℕ) (c : ℕ) → pieces_from piece xs ≡ (piece ++ xs) ∷ [] → stays (piece ++ xs) c ≡ true → pieces_from piece (xs ++ c ∷ []) ≡ (piece ++ (xs ++ c ∷ [])) ∷ []
-one_more piece [] c h is = by piece (rw (append-nil piece) at is)
+one_more piece [] c h is = one-stays piece (rw (append-nil piece) at is)
   where
-    by : (piece : List ℕ) → stays piece c ≡ true → pieces_from piece (c ∷ []) ≡ (piece ++ c ∷ []) ∷ []
-    by piece e = rw e refl
-one_more piece (x ∷ xs) c h is = by (stays piece x) refl h (λ more. one_more (piece ++ x ∷ []) xs c more (ap (λ ys. stays ys c) (append_assoc piece (x ∷ []) xs) ∙ is))
+    one-stays : (piece : List ℕ) → stays piece c ≡ true → pieces_from piece (c ∷ []) ≡ (piece ++ c ∷ []) ∷ []
+    one-stays piece e = rw e refl
+one_more piece (x ∷ xs) c h is = stays-or-begins (stays piece x) refl h (λ more. one_more (piece ++ x ∷ []) xs c more (ap (λ ys. stays ys c) (append_assoc piece (x ∷ []) xs) ∙ is))
   where
     all : (piece ++ x ∷ []) ++ (xs ++ c ∷ []) ≡ piece ++ (x ∷ xs ++ c ∷ [])
     all = append_assoc piece (x ∷ []) (xs ++ c ∷ [])
 
-    by : (b : Bool) → stays piece x ≡ b → cond b (pieces_from (piece ++ x ∷ []) xs) (piece ∷ pieces_from (x ∷ []) xs) ≡ (piece ++ (x ∷ xs)) ∷ [] → (pieces_from (piece ++ x ∷ []) xs ≡ ((piece ++ x ∷ []) ++ xs) ∷ [] → pieces_from (piece ++ x ∷ []) (xs ++ c ∷ []) ≡ ((piece ++ x ∷ []) ++ (xs ++ c ∷ [])) ∷ []) → cond b (pieces_from (piece ++ x ∷ []) (xs ++ c ∷ [])) (piece ∷ pieces_from (x ∷ []) (xs ++ c ∷ [])) ≡ (piece ++ (x ∷ xs ++ c ∷ [])) ∷ []
-    by true e whole more = more (whole ∙ ap (λ ys. ys ∷ []) (sym (append_assoc piece (x ∷ []) xs))) ∙ ap (λ ys. ys ∷ []) all
-    by false e whole more = absurd (two (from_head x [] xs))
+    stays-or-begins : (b : Bool) → stays piece x ≡ b → cond b (pieces_from (piece ++ x ∷ []) xs) (piece ∷ pieces_from (x ∷ []) xs) ≡ (piece ++ (x ∷ xs)) ∷ [] → (pieces_from (piece ++ x ∷ []) xs ≡ ((piece ++ x ∷ []) ++ xs) ∷ [] → pieces_from (piece ++ x ∷ []) (xs ++ c ∷ []) ≡ ((piece ++ x ∷ []) ++ (xs ++ c ∷ [])) ∷ []) → cond b (pieces_from (piece ++ x ∷ []) (xs ++ c ∷ [])) (piece ∷ pieces_from (x ∷ []) (xs ++ c ∷ [])) ≡ (piece ++ (x ∷ xs ++ c ∷ [])) ∷ []
+    stays-or-begins true e whole more = more (whole ∙ ap (λ ys. ys ∷ []) (sym (append_assoc piece (x ∷ []) xs))) ∙ ap (λ ys. ys ∷ []) all
+    stays-or-begins false e whole more = absurd (two (from_head x [] xs))
       where
         two : (ys : List ℕ) × (rest : List (List ℕ)) × (pieces_from (x ∷ []) xs ≡ (x ∷ ys) ∷ rest) → ⊥
         two t = some_two (ap (λ ps. piece ∷ ps) (sym t.2) ∙ whole)
@@ -60,7 +60,7 @@ line_one d h = rw (ne_eqb d 10 (eqb-false d 10 h)) refl
 
 own_from : (c : ℕ) (xs cs : List ℕ) → pieces (c ∷ xs) ≡ (c ∷ xs) ∷ [] → (is_just 10 (c ∷ xs) ≡ false → IsLine (c ∷ xs)) → AllByRecursion IsPiece (pieces_from (c ∷ xs) cs)
 own_from c xs [] one line = (record { one = one; line = line }, tt)
-own_from c xs (d ∷ cs) one line = by (stays (c ∷ xs) d) refl (λ o l. own_from c (xs ++ d ∷ []) cs o l) (own_from d [] cs refl (line_one d))
+own_from c xs (d ∷ cs) one line = own-next (stays (c ∷ xs) d) refl (λ o l. own_from c (xs ++ d ∷ []) cs o l) (own_from d [] cs refl (line_one d))
   where
     longer : stays (c ∷ xs) d ≡ true → is_just 10 (c ∷ xs ++ d ∷ []) ≡ false → IsLine (c ∷ xs ++ d ∷ [])
     longer is apart = line-more (c ∷ xs) d (line (newline (cases_Bool (is_just 10 (c ∷ xs))))) (stays-newline (c ∷ xs) d is).0
@@ -69,9 +69,9 @@ own_from c xs (d ∷ cs) one line = by (stays (c ∷ xs) d) refl (λ o l. own_fr
         newline (inr other) = other
         newline (inl just) = absurd ((stays-newline (c ∷ xs) d is).1 (ap last_of (just-is 10 (c ∷ xs) just)))
 
-    by : (b : Bool) → stays (c ∷ xs) d ≡ b → (pieces (c ∷ xs ++ d ∷ []) ≡ (c ∷ xs ++ d ∷ []) ∷ [] → (is_just 10 (c ∷ xs ++ d ∷ []) ≡ false → IsLine (c ∷ xs ++ d ∷ [])) → AllByRecursion IsPiece (pieces_from (c ∷ xs ++ d ∷ []) cs)) → AllByRecursion IsPiece (pieces_from (d ∷ []) cs) → AllByRecursion IsPiece (cond b (pieces_from (c ∷ xs ++ d ∷ []) cs) ((c ∷ xs) ∷ pieces_from (d ∷ []) cs))
-    by true is more rest = more (one_more (c ∷ []) xs d one is) (longer is)
-    by false is more rest = (record { one = one; line = line }, rest)
+    own-next : (b : Bool) → stays (c ∷ xs) d ≡ b → (pieces (c ∷ xs ++ d ∷ []) ≡ (c ∷ xs ++ d ∷ []) ∷ [] → (is_just 10 (c ∷ xs ++ d ∷ []) ≡ false → IsLine (c ∷ xs ++ d ∷ [])) → AllByRecursion IsPiece (pieces_from (c ∷ xs ++ d ∷ []) cs)) → AllByRecursion IsPiece (pieces_from (d ∷ []) cs) → AllByRecursion IsPiece (cond b (pieces_from (c ∷ xs ++ d ∷ []) cs) ((c ∷ xs) ∷ pieces_from (d ∷ []) cs))
+    own-next true is more rest = more (one_more (c ∷ []) xs d one is) (longer is)
+    own-next false is more rest = (record { one = one; line = line }, rest)
 
 pub own : (cs : List ℕ) → AllByRecursion IsPiece (pieces cs)
 own [] = tt
@@ -89,11 +89,11 @@ not_just c (d ∷ xs) h = refl
 
 behind_newline : (cs : List ℕ) → pieces (10 ∷ cs) ≡ (10 ∷ []) ∷ pieces cs
 behind_newline [] = refl
-behind_newline (d ∷ cs) = by (d == 10)
+behind_newline (d ∷ cs) = newline-apart (d == 10)
   where
-    by : (b : Bool) → cond (not (b || true) && belongs 10 (ends_in_half_a_flag (10 ∷ [])) (last_cluster (10 ∷ [])) d) (pieces_from (10 ∷ d ∷ []) cs) ((10 ∷ []) ∷ pieces_from (d ∷ []) cs) ≡ (10 ∷ []) ∷ pieces_from (d ∷ []) cs
-    by true = refl
-    by false = refl
+    newline-apart : (b : Bool) → cond (not (b || true) && belongs 10 (ends_in_half_a_flag (10 ∷ [])) (last_cluster (10 ∷ [])) d) (pieces_from (10 ∷ d ∷ []) cs) ((10 ∷ []) ∷ pieces_from (d ∷ []) cs) ≡ (10 ∷ []) ∷ pieces_from (d ∷ []) cs
+    newline-apart true = refl
+    newline-apart false = refl
 
 lined : (cs : List ℕ) → Lined cs
 lined [] = record { all = refl; begun = λ c xs h. rw (not_just c xs h) refl }
@@ -142,13 +142,13 @@ pieces-of_lines cs = let l = lined cs in l.all
 
 -- a line's pieces
 pub line-pieces : (line : List ℕ) → IsLine line → list_all (λ p. not (is_just 10 p)) (pieces line) ≡ true
-line-pieces line h = by (pieces line) (own line) (subst IsLine (sym (concat-pieces line)) h)
+line-pieces line h = none-newline (pieces line) (own line) (subst IsLine (sym (concat-pieces line)) h)
   where
-    by : (ps : List (List ℕ)) → AllByRecursion IsPiece ps → IsLine (concat ps) → list_all (λ p. not (is_just 10 p)) ps ≡ true
-    by [] all all_line = refl
-    by (p ∷ ps) all all_line =
+    none-newline : (ps : List (List ℕ)) → AllByRecursion IsPiece ps → IsLine (concat ps) → list_all (λ p. not (is_just 10 p)) ps ≡ true
+    none-newline [] all all_line = refl
+    none-newline (p ∷ ps) all all_line =
         let parts = line-parts p (concat ps) all_line in
-        rw (apart p (cases_Bool (is_just 10 p)) parts.0) (by ps all.1 parts.1)
+        rw (apart p (cases_Bool (is_just 10 p)) parts.0) (none-newline ps all.1 parts.1)
       where
         apart : (p : List ℕ) → (is_just 10 p ≡ true) ⊎ (is_just 10 p ≡ false) → IsLine p → is_just 10 p ≡ false
         apart p (inr other) one = other

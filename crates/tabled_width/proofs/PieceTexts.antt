@@ -17,11 +17,11 @@ scalars-from piece [] p q = (p, tt)
 scalars-from piece (c ∷ cs) p q =
     let parts = and_parts (scalar c) (scalars cs) q in
     let one = scalars-one c parts.0 in
-    by (stays piece c) (scalars-from (piece ++ c ∷ []) cs (scalars-append piece (c ∷ []) p one) parts.1) (scalars-from (c ∷ []) cs one parts.1)
+    scalars-next (stays piece c) (scalars-from (piece ++ c ∷ []) cs (scalars-append piece (c ∷ []) p one) parts.1) (scalars-from (c ∷ []) cs one parts.1)
   where
-    by : (b : Bool) → AreScalars (pieces_from (piece ++ c ∷ []) cs) → AreScalars (pieces_from (c ∷ []) cs) → AreScalars (cond b (pieces_from (piece ++ c ∷ []) cs) (piece ∷ pieces_from (c ∷ []) cs))
-    by true more rest = more
-    by false more rest = (p, rest)
+    scalars-next : (b : Bool) → AreScalars (pieces_from (piece ++ c ∷ []) cs) → AreScalars (pieces_from (c ∷ []) cs) → AreScalars (cond b (pieces_from (piece ++ c ∷ []) cs) (piece ∷ pieces_from (c ∷ []) cs))
+    scalars-next true more rest = more
+    scalars-next false more rest = (p, rest)
 
 scalars-pieces : (cs : List ℕ) → scalars cs ≡ true → AreScalars (pieces cs)
 scalars-pieces [] q = tt
@@ -40,11 +40,11 @@ chars-pieces text utf8 = chars-each (pieces (chars text)) (scalars-pieces (chars
 -- the pieces of characters are these characters
 concat-from : (piece cs : List ℕ) → concat (pieces_from piece cs) ≡ piece ++ cs
 concat-from piece [] = refl
-concat-from piece (c ∷ cs) = by (stays piece c) (concat-from (piece ++ c ∷ []) cs) (concat-from (c ∷ []) cs)
+concat-from piece (c ∷ cs) = concat-next (stays piece c) (concat-from (piece ++ c ∷ []) cs) (concat-from (c ∷ []) cs)
   where
-    by : (b : Bool) → concat (pieces_from (piece ++ c ∷ []) cs) ≡ (piece ++ c ∷ []) ++ cs → concat (pieces_from (c ∷ []) cs) ≡ c ∷ cs → concat (cond b (pieces_from (piece ++ c ∷ []) cs) (piece ∷ pieces_from (c ∷ []) cs)) ≡ piece ++ c ∷ cs
-    by true more rest = more ∙ append_assoc piece (c ∷ []) cs
-    by false more rest = ap (λ xs. piece ++ xs) rest
+    concat-next : (b : Bool) → concat (pieces_from (piece ++ c ∷ []) cs) ≡ (piece ++ c ∷ []) ++ cs → concat (pieces_from (c ∷ []) cs) ≡ c ∷ cs → concat (cond b (pieces_from (piece ++ c ∷ []) cs) (piece ∷ pieces_from (c ∷ []) cs)) ≡ piece ++ c ∷ cs
+    concat-next true more rest = more ∙ append_assoc piece (c ∷ []) cs
+    concat-next false more rest = ap (λ xs. piece ++ xs) rest
 
 pub concat-pieces : (cs : List ℕ) → concat (pieces cs) ≡ cs
 concat-pieces [] = refl

@@ -60,11 +60,11 @@ scanned-first text rest c utf8 is =
     }
   where
     alone : (c : ℕ) → last_cluster (c ∷ []) ≡ c ∷ []
-    alone c = by (attaches c)
+    alone c = same-branches (attaches c)
       where
-        by : (b : Bool) → cond b (c ∷ []) (c ∷ []) ≡ c ∷ []
-        by true = refl
-        by false = refl
+        same-branches : (b : Bool) → cond b (c ∷ []) (c ∷ []) ≡ c ∷ []
+        same-branches true = refl
+        same-branches false = refl
 
     half : (b : Bool) → b ≡ (b && not false)
     half true = refl

@@ -21,12 +21,12 @@ just-self k = eq-eqb k k refl
 
 -- a text that is compared with one character
 pub just-text : (k : ℕ) → chars (k ∷ []) ≡ k ∷ [] → encode_utf8_all (k ∷ []) ≡ k ∷ [] → (bs : List ℕ) → IsUtf8 bs → bytes_eq bs (k ∷ []) ≡ is_just k (chars bs)
-just-text k decoded encoded bs utf8 = by (cases_Bool (bytes_eq bs (k ∷ []))) (cases_Bool (is_just k (chars bs)))
+just-text k decoded encoded bs utf8 = same-test (cases_Bool (bytes_eq bs (k ∷ []))) (cases_Bool (is_just k (chars bs)))
   where
-    by : (bytes_eq bs (k ∷ []) ≡ true) ⊎ (bytes_eq bs (k ∷ []) ≡ false) → (is_just k (chars bs) ≡ true) ⊎ (is_just k (chars bs) ≡ false) → bytes_eq bs (k ∷ []) ≡ is_just k (chars bs)
-    by (inl t) q = t ∙ sym (ap (λ xs. is_just k (chars xs)) (same_text bs (k ∷ []) (sym t)) ∙ ap (is_just k) decoded ∙ just-self k)
-    by (inr f) (inl t) = absurd (other_text bs (k ∷ []) (sym f) (sym (encodes-chars bs utf8) ∙ ap encode_utf8_all (just-is k (chars bs) t) ∙ encoded))
-    by (inr f) (inr g) = f ∙ sym g
+    same-test : (bytes_eq bs (k ∷ []) ≡ true) ⊎ (bytes_eq bs (k ∷ []) ≡ false) → (is_just k (chars bs) ≡ true) ⊎ (is_just k (chars bs) ≡ false) → bytes_eq bs (k ∷ []) ≡ is_just k (chars bs)
+    same-test (inl t) q = t ∙ sym (ap (λ xs. is_just k (chars xs)) (same_text bs (k ∷ []) (sym t)) ∙ ap (is_just k) decoded ∙ just-self k)
+    same-test (inr f) (inl t) = absurd (other_text bs (k ∷ []) (sym f) (sym (encodes-chars bs utf8) ∙ ap encode_utf8_all (just-is k (chars bs) t) ∙ encoded))
+    same-test (inr f) (inr g) = f ∙ sym g
 
 pub newline-text : (bs : List ℕ) → IsUtf8 bs → bytes_eq bs (10 ∷ []) ≡ is_just 10 (chars bs)
 unfolding chars encode_utf8
@@ -59,15 +59,15 @@ some (word ∷ words) = word ∷ words
 
 some-split : (ps : List (List ℕ)) → some (slice_split is_space ps) ≡ slice_split is_space ps
 some-split [] = refl
-some-split (p ∷ ps) = by (is_space p)
+some-split (p ∷ ps) = some-next (is_space p)
   where
     onto : (words : List (List (List ℕ))) → some (onto_first p words) ≡ onto_first p words
     onto [] = refl
     onto (word ∷ words) = refl
 
-    by : (b : Bool) → some (cond b ([] ∷ slice_split is_space ps) (onto_first p (slice_split is_space ps))) ≡ cond b ([] ∷ slice_split is_space ps) (onto_first p (slice_split is_space ps))
-    by true = refl
-    by false = onto (slice_split is_space ps)
+    some-next : (b : Bool) → some (cond b ([] ∷ slice_split is_space ps) (onto_first p (slice_split is_space ps))) ≡ cond b ([] ∷ slice_split is_space ps) (onto_first p (slice_split is_space ps))
+    some-next true = refl
+    some-next false = onto (slice_split is_space ps)
 
 with_more : (columns : ℕ) (p : List ℕ) (words : List (List (List ℕ))) → with_first columns (onto_first p words) ≡ with_first (columns + text_width p) (some words)
 with_more columns p [] = ap (λ n. n ∷ []) (ap (λ n. columns + n) (sum_by-cons text_width p []) ∙ (let e : columns + (text_width p + 0) ≡ columns + text_width p + 0 = omega arith in e))
@@ -75,11 +75,11 @@ with_more columns p (word ∷ words) = ap (λ n. n ∷ map columns_in words) (ap
 
 from_words : (most columns : ℕ) (ps : List (List ℕ)) → widest_from most columns ps ≡ most_of most (with_first columns (slice_split is_space ps))
 from_words most columns [] = ap (max most) (let e : columns ≡ columns + 0 = omega arith in e)
-from_words most columns (p ∷ ps) = by (is_space p) (from_words (max most columns) 0 ps) (from_words most (columns + text_width p) ps)
+from_words most columns (p ∷ ps) = widest-next (is_space p) (from_words (max most columns) 0 ps) (from_words most (columns + text_width p) ps)
   where
-    by : (b : Bool) → widest_from (max most columns) 0 ps ≡ most_of (max most columns) (with_first 0 (slice_split is_space ps)) → widest_from most (columns + text_width p) ps ≡ most_of most (with_first (columns + text_width p) (slice_split is_space ps)) → cond b (widest_from (max most columns) 0 ps) (widest_from most (columns + text_width p) ps) ≡ most_of most (with_first columns (cond b ([] ∷ slice_split is_space ps) (onto_first p (slice_split is_space ps))))
-    by true space more = space ∙ ap (most_of (max most columns)) (with_none (slice_split is_space ps)) ∙ ap (λ n. most_of (max most n) (map columns_in (slice_split is_space ps))) (let e : columns ≡ columns + 0 = omega arith in e)
-    by false space more = more ∙ ap (most_of most) (ap (with_first (columns + text_width p)) (sym (some-split ps)) ∙ sym (with_more columns p (slice_split is_space ps)))
+    widest-next : (b : Bool) → widest_from (max most columns) 0 ps ≡ most_of (max most columns) (with_first 0 (slice_split is_space ps)) → widest_from most (columns + text_width p) ps ≡ most_of most (with_first (columns + text_width p) (slice_split is_space ps)) → cond b (widest_from (max most columns) 0 ps) (widest_from most (columns + text_width p) ps) ≡ most_of most (with_first columns (cond b ([] ∷ slice_split is_space ps) (onto_first p (slice_split is_space ps))))
+    widest-next true space more = space ∙ ap (most_of (max most columns)) (with_none (slice_split is_space ps)) ∙ ap (λ n. most_of (max most n) (map columns_in (slice_split is_space ps))) (let e : columns ≡ columns + 0 = omega arith in e)
+    widest-next false space more = more ∙ ap (most_of most) (ap (with_first (columns + text_width p)) (sym (some-split ps)) ∙ sym (with_more columns p (slice_split is_space ps)))
 
 fold-columns : (most : ℕ) (words : List (List (List ℕ))) → most_of most (map columns_in words) ≡ fold (λ most word. max most (columns_in word)) most words
 fold-columns most [] = refl

@@ -26,15 +26,15 @@ not_both a b h less = absurd (omega (arith, leb-true a b h, less))
 value-within : {V : Type 0} (q : V → Bool) (d : V) (ss : List (ℕ × V)) (a b c : ℕ) → passes_within q d ss a b ≡ true → a ≤ c → c < b → q (value d ss c) ≡ true
 unfolding value passes_within
 value-within q d [] a b c h low high = h
-value-within q d (s ∷ ss) a b c h low high = by (cases_lt c s.0) (or_cases (nat_le s.0 a) (q s.1) parts.0) (λ more. value-within q d ss a b c more low high)
+value-within q d (s ∷ ss) a b c h low high = value-here (cases_lt c s.0) (or_cases (nat_le s.0 a) (q s.1) parts.0) (λ more. value-within q d ss a b c more low high)
   where
     parts : ((nat_le s.0 a || q s.1) ≡ true) × (cond (nat_le b s.0) true (passes_within q d ss a b) ≡ true)
     parts = and_parts (nat_le s.0 a || q s.1) (cond (nat_le b s.0) true (passes_within q d ss a b)) h
 
-    by : (c < s.0) ⊎ (s.0 ≤ c) → (nat_le s.0 a ≡ true) ⊎ (q s.1 ≡ true) → (passes_within q d ss a b ≡ true → q (value d ss c) ≡ true) → q (cond (nat_lt c s.0) s.1 (value d ss c)) ≡ true
-    by (inl here) (inl past) more = not_both s.0 a past (omega arith)
-    by (inl here) (inr passes) more = rw (lt-ltb c s.0 here) passes
-    by (inr later) l more =
+    value-here : (c < s.0) ⊎ (s.0 ≤ c) → (nat_le s.0 a ≡ true) ⊎ (q s.1 ≡ true) → (passes_within q d ss a b ≡ true → q (value d ss c) ≡ true) → q (cond (nat_lt c s.0) s.1 (value d ss c)) ≡ true
+    value-here (inl here) (inl past) more = not_both s.0 a past (omega arith)
+    value-here (inl here) (inr passes) more = rw (lt-ltb c s.0 here) passes
+    value-here (inr later) l more =
         let ended : nat_le b s.0 ≡ false = lt-leb b s.0 (omega arith) in
         rw (le-ltb c s.0 later) (more (rw ended at parts.1))
 
@@ -46,11 +46,11 @@ skip (s ∷ ss) n = let rest = skip ss n in cond (nat_le s.0 n) rest (s ∷ ss)
 value-skip : {V : Type 0} (d : V) (ss : List (ℕ × V)) (n c : ℕ) → n ≤ c → value d (skip ss n) c ≡ value d ss c
 unfolding value skip
 value-skip d [] n c h = refl
-value-skip d (s ∷ ss) n c h = by (cases_lt n s.0) (value-skip d ss n c h)
+value-skip d (s ∷ ss) n c h = skip-here (cases_lt n s.0) (value-skip d ss n c h)
   where
-    by : (n < s.0) ⊎ (s.0 ≤ n) → value d (skip ss n) c ≡ value d ss c → value d (cond (nat_le s.0 n) (skip ss n) (s ∷ ss)) c ≡ cond (nat_lt c s.0) s.1 (value d ss c)
-    by (inl after) more = rw (lt-leb s.0 n after) refl
-    by (inr before) more = rw (le-leb s.0 n before, le-ltb c s.0 (omega arith)) more
+    skip-here : (n < s.0) ⊎ (s.0 ≤ n) → value d (skip ss n) c ≡ value d ss c → value d (cond (nat_le s.0 n) (skip ss n) (s ∷ ss)) c ≡ cond (nat_lt c s.0) s.1 (value d ss c)
+    skip-here (inl after) more = rw (lt-leb s.0 n after) refl
+    skip-here (inr before) more = rw (le-leb s.0 n before, le-ltb c s.0 (omega arith)) more
 
 -- where a step counts, the values in its place pass
 unfoldable counted : {V : Type 0} → Bool → (V → Bool) → V → List (ℕ × V) → ℕ → ℕ → Bool
@@ -66,15 +66,15 @@ value-where : {V : Type 0} (q : V → Bool) (d : V) (ss : List (ℕ × V)) (from
 unfolding value passes_where counted
 value-where q d ss from [] true c h low is = absurd (false≢true h)
 value-where q d ss from [] false c h low is = absurd (false≢true is)
-value-where q d ss from (p ∷ ps) default c h low is = by (cases_lt c p.0) p.1 parts.0 is (λ later more. ap q (sym (value-skip d ss p.0 c later)) ∙ value-where q d (skip ss p.0) p.0 ps default c parts.1 later more)
+value-where q d ss from (p ∷ ps) default c h low is = where-here (cases_lt c p.0) p.1 parts.0 is (λ later more. ap q (sym (value-skip d ss p.0 c later)) ∙ value-where q d (skip ss p.0) p.0 ps default c parts.1 later more)
   where
     parts : (counted (nat_lt from p.0 && p.1) q d ss from p.0 ≡ true) × (passes_where q d (skip ss p.0) p.0 ps default ≡ true)
     parts = and_parts (counted (nat_lt from p.0 && p.1) q d ss from p.0) (passes_where q d (skip ss p.0) p.0 ps default) h
 
-    by : (c < p.0) ⊎ (p.0 ≤ c) → (counts : Bool) → counted (nat_lt from p.0 && counts) q d ss from p.0 ≡ true → cond (nat_lt c p.0) counts (value default ps c) ≡ true → (p.0 ≤ c → value default ps c ≡ true → q (value d ss c) ≡ true) → q (value d ss c) ≡ true
-    by (inl here) true all e more = value-within q d ss from p.0 c (rw (lt-ltb from p.0 (omega arith)) at all) low here
-    by (inl here) false all e more = let never : false ≡ true = rw (lt-ltb c p.0 here) at e in absurd (false≢true never)
-    by (inr later) counts all e more = more later (rw (le-ltb c p.0 later) at e)
+    where-here : (c < p.0) ⊎ (p.0 ≤ c) → (counts : Bool) → counted (nat_lt from p.0 && counts) q d ss from p.0 ≡ true → cond (nat_lt c p.0) counts (value default ps c) ≡ true → (p.0 ≤ c → value default ps c ≡ true → q (value d ss c) ≡ true) → q (value d ss c) ≡ true
+    where-here (inl here) true all e more = value-within q d ss from p.0 c (rw (lt-ltb from p.0 (omega arith)) at all) low here
+    where-here (inl here) false all e more = let never : false ≡ true = rw (lt-ltb c p.0 here) at e in absurd (false≢true never)
+    where-here (inr later) counts all e more = more later (rw (le-ltb c p.0 later) at e)
 
 -- the values that pass stand between two numbers
 unfoldable lies_within : {V : Type 0} → (V → Bool) → ℕ → ℕ → V → ℕ → List (ℕ × V) → Bool
@@ -83,22 +83,22 @@ lies_within q low high d from (s ∷ ss) = (not (q s.1) || (nat_le low from && n
 
 value-lies : {V : Type 0} (q : V → Bool) (low high : ℕ) (d : V) (from : ℕ) (ss : List (ℕ × V)) (c : ℕ) → lies_within q low high d from ss ≡ true → from ≤ c → q (value d ss c) ≡ true → (low ≤ c) × (c ≤ high)
 unfolding value lies_within
-value-lies q low high d from [] c h least is = by (q d) h is
+value-lies q low high d from [] c h least is = not-both (q d) h is
   where
-    by : (b : Bool) → not b ≡ true → b ≡ true → (low ≤ c) × (c ≤ high)
-    by true all some = absurd (false≢true all)
-    by false all some = absurd (false≢true some)
-value-lies q low high d from (s ∷ ss) c h least is = by (cases_lt c s.0) (q s.1) refl parts.0 (λ later more. value-lies q low high d s.0 ss c parts.1 later more)
+    not-both : (b : Bool) → not b ≡ true → b ≡ true → (low ≤ c) × (c ≤ high)
+    not-both true all some = absurd (false≢true all)
+    not-both false all some = absurd (false≢true some)
+value-lies q low high d from (s ∷ ss) c h least is = lies-here (cases_lt c s.0) (q s.1) refl parts.0 (λ later more. value-lies q low high d s.0 ss c parts.1 later more)
   where
     parts : ((not (q s.1) || (nat_le low from && nat_le s.0 (high + 1))) ≡ true) × (lies_within q low high d s.0 ss ≡ true)
     parts = and_parts (not (q s.1) || (nat_le low from && nat_le s.0 (high + 1))) (lies_within q low high d s.0 ss) h
 
-    by : (c < s.0) ⊎ (s.0 ≤ c) → (b : Bool) → q s.1 ≡ b → (not b || (nat_le low from && nat_le s.0 (high + 1))) ≡ true → (s.0 ≤ c → q (value d ss c) ≡ true → (low ≤ c) × (c ≤ high)) → (low ≤ c) × (c ≤ high)
-    by (inl here) true e lies more =
+    lies-here : (c < s.0) ⊎ (s.0 ≤ c) → (b : Bool) → q s.1 ≡ b → (not b || (nat_le low from && nat_le s.0 (high + 1))) ≡ true → (s.0 ≤ c → q (value d ss c) ≡ true → (low ≤ c) × (c ≤ high)) → (low ≤ c) × (c ≤ high)
+    lies-here (inl here) true e lies more =
         let both = and_parts (nat_le low from) (nat_le s.0 (high + 1)) lies in
         (omega (arith, leb-true low from both.0), omega (arith, leb-true s.0 (high + 1) both.1))
-    by (inl here) false e lies more = absurd (false≢true (sym e ∙ (rw (lt-ltb c s.0 here) at is)))
-    by (inr later) b e lies more = more later (rw (le-ltb c s.0 later) at is)
+    lies-here (inl here) false e lies more = absurd (false≢true (sym e ∙ (rw (lt-ltb c s.0 here) at is)))
+    lies-here (inr later) b e lies more = more later (rw (le-ltb c s.0 later) at is)
 
 -- ---- the tables
 

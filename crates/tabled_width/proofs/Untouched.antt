@@ -44,19 +44,19 @@ module _ (a : After) (bare : IsBare a) (y : ℕ) (t : ℕ) (free : joins false a
 
   context : in_context false y t (before a) ≡ added t (alone false y)
   unfolding in_context
-  context = by (cases_Bool (y == 0xFE0F)) (cases_Bool (y == 0xFE01)) (cases_Bool (y == 0xFE0E))
+  context = context-selected (cases_Bool (y == 0xFE0F)) (cases_Bool (y == 0xFE01)) (cases_Bool (y == 0xFE0E))
     where
-      by : ((y == 0xFE0F) ≡ true) ⊎ ((y == 0xFE0F) ≡ false) → ((y == 0xFE01) ≡ true) ⊎ ((y == 0xFE01) ≡ false) → ((y == 0xFE0E) ≡ true) ⊎ ((y == 0xFE0E) ≡ false) → in_context false y t (before a) ≡ added t (alone false y)
-      by (inl is) q r =
+      context-selected : ((y == 0xFE0F) ≡ true) ⊎ ((y == 0xFE0F) ≡ false) → ((y == 0xFE01) ≡ true) ⊎ ((y == 0xFE01) ≡ false) → ((y == 0xFE0E) ≡ true) ⊎ ((y == 0xFE0E) ≡ false) → in_context false y t (before a) ≡ added t (alone false y)
+      context-selected (inl is) q r =
           let here : y ≡ 0xFE0F = eqb-true y 0xFE0F is in
           rw (is, bare.no_joined, nothing_kept) (ap (λ k. (k, record plain { emoji = true })) (no-more t) ∙ ap (added t) (sym emoji_selector) ∙ ap (λ k. added t (alone false k)) (sym here))
-      by (inr other) (inl is) r =
+      context-selected (inr other) (inl is) r =
           let here : y ≡ 0xFE01 = eqb-true y 0xFE01 is in
           rw (other, is, nothing_kept) (ap (λ k. (k, record plain { quote = true })) (no-more t) ∙ ap (added t) (sym quote_selector) ∙ ap (λ k. added t (alone false k)) (sym here))
-      by (inr other) (inr another) (inl is) =
+      context-selected (inr other) (inr another) (inl is) =
           let here : y ≡ 0xFE0E = eqb-true y 0xFE0E is in
           rw (other, another, is, nothing_kept) (ap (λ k. (k, record plain { text = true })) (no-more t) ∙ ap (added t) (sym text_selector) ∙ ap (λ k. added t (alone false k)) (sym here))
-      by (inr other) (inr another) (inr third) = rw (other, another, third) past
+      context-selected (inr other) (inr another) (inr third) = rw (other, another, third) past
 
   pub same-step : step false y (t, before a) ≡ step false y (t, plain)
   unfolding step past_emoji
@@ -64,7 +64,7 @@ module _ (a : After) (bare : IsBare a) (y : ℕ) (t : ℕ) (free : joins false a
       cond_both (y == 0x0A) (t + 1, before LineFeed) (cond ((y == 0x0D) && is_line_feed a) (t, plain) (cond (nat_le y 0xA0) (t + 1, plain) (cond (is_plain (before a)) (added t (alone false y)) (in_context false y t (before a)))))
       (λ r. r ≡ past_emoji false y t plain)
       (λ is. rw is refl)
-      (λ other. rw (bare.no_feed, bare.something, context) (rw other (by (y == 0x0D) (nat_le y 0xA0))))
+      (λ other. rw (bare.no_feed, bare.something, context) (rw other (same-branches (y == 0x0D) (nat_le y 0xA0))))
     where
-      by : (b d : Bool) → cond (b && false) (t, plain) (cond d (t + 1, plain) (cond ((false && true) && true) (added t (alone false y)) (added t (alone false y)))) ≡ cond (b && false) (t, plain) (cond d (t + 1, plain) (added t (alone false y)))
-      by b d = refl
+      same-branches : (b d : Bool) → cond (b && false) (t, plain) (cond d (t + 1, plain) (cond ((false && true) && true) (added t (alone false y)) (added t (alone false y)))) ≡ cond (b && false) (t, plain) (cond d (t + 1, plain) (added t (alone false y)))
+      same-branches b d = refl

@@ -30,11 +30,11 @@ half_false true h = refl
 half_false false h = absurd (false≢true (sym h))
 
 pair : (front : List ℕ) (y : ℕ) → is_indicator y ≡ true → ends_in_half_a_flag (front ++ y ∷ []) ≡ false → Pair (front ++ y ∷ [])
-pair front y is h = by front (half_false (ends_in_half_a_flag front) (ap (λ b. b && not (ends_in_half_a_flag front)) (sym is) ∙ sym (more-half front y) ∙ h))
+pair front y is h = pair-ended front (half_false (ends_in_half_a_flag front) (ap (λ b. b && not (ends_in_half_a_flag front)) (sym is) ∙ sym (more-half front y) ∙ h))
   where
-    by : (front : List ℕ) → ends_in_half_a_flag front ≡ true → Pair (front ++ y ∷ [])
-    by [] half = absurd (false≢true half)
-    by (c ∷ cs) half =
+    pair-ended : (front : List ℕ) → ends_in_half_a_flag front ≡ true → Pair (front ++ y ∷ [])
+    pair-ended [] half = absurd (false≢true half)
+    pair-ended (c ∷ cs) half =
         let e = ended c cs in
         let parts = half_true (is_indicator e.end) (ends_in_half_a_flag e.front) (sym (more-half e.front e.end) ∙ ap ends_in_half_a_flag (sym e.is) ∙ half) in
         record { front = e.front; first = e.end; second = y; is = ap (λ xs. xs ++ y ∷ []) e.is; is_first = parts.0; is_second = is; even = parts.1 }
@@ -49,7 +49,7 @@ shorter k cs front z y h is = omega (arith, h, ap length is, length-append (fron
 alike : (k : ℕ) (cs : List ℕ) → length cs ≤ k → ends_in_half_a_flag cs ≡ false → (b c : After) → is_whole b ≡ true → is_whole c ≡ true → (n : ℕ) → 1 ≤ n → (read_before false cs (n, before b)).0 ≡ (read_before false cs (n, before c)).0
 alike k [] h half b c p q n some = refl
 alike zero (x ∷ xs) h half b c p q n some = absurd (omega (arith, h))
-alike (suc k) (x ∷ xs) h half b c p q n some = by (ended x xs) (λ front less even d e v w. alike k front less even d e v w (n + 2) (omega arith))
+alike (suc k) (x ∷ xs) h half b c p q n some = ended-alike (ended x xs) (λ front less even d e v w. alike k front less even d e v w (n + 2) (omega arith))
   where
     More : Type 0
     More = (front : List ℕ) → length front ≤ k → ends_in_half_a_flag front ≡ false → (d e : After) → is_whole d ≡ true → is_whole e ≡ true → (read_before false front (n + 2, before d)).0 ≡ (read_before false front (n + 2, before e)).0
@@ -76,8 +76,8 @@ alike (suc k) (x ∷ xs) h half b c p q n some = by (ended x xs) (λ front less 
             same-step b (bare_flag b (flag_from_whole b p)) e.end n (flag-free b (flag_from_whole b p) e.end none free)
             ∙ sym (same-step c (bare_flag c (flag_from_whole c q)) e.end n (flag-free c (flag_from_whole c q) e.end none free))
 
-    by : Ended (x ∷ xs) → More → All (x ∷ xs)
-    by e more = choose (cases_Bool (is_indicator e.end))
+    ended-alike : Ended (x ∷ xs) → More → All (x ∷ xs)
+    ended-alike e more = choose (cases_Bool (is_indicator e.end))
       where
         choose : (is_indicator e.end ≡ true) ⊎ (is_indicator e.end ≡ false) → All (x ∷ xs)
         choose (inl is) = paired (subst Pair (sym e.is) (pair e.front e.end is (ap ends_in_half_a_flag (sym e.is) ∙ half))) more

@@ -27,24 +27,24 @@ use borrow.Author.Tests.{le-leb, leb-true}
 abbrev pub turns : ℕ → Bool → Option ℕ → List ℕ → List (List ℕ) → Bool
 turns n keeps used p ps = keeps && (is_just 32 p && not (word_fits n used ps))
 
-pub by-placed : (n : ℕ) (keeps : Bool) (used : Option ℕ) (p : List ℕ) (ps : List (List ℕ)) (P : List ℕ → Type 0)
+pub placed-cases : (n : ℕ) (keeps : Bool) (used : Option ℕ) (p : List ℕ) (ps : List (List ℕ)) (P : List ℕ → Type 0)
     → (p ≡ 10 ∷ [] → P (10 ∷ put_from n keeps None ps))
     → (p ≡ 32 ∷ [] → P (10 ∷ put_from n keeps None ps))
     → (p ≡ 32 ∷ [] → begins_word ps ≡ false → P (put_from n keeps used ps))
     → (is_just 10 p ≡ false → turns n keeps used p ps ≡ false → fits n used (text_width p) ≡ true → P (p ++ put_from n keeps (Some (unwrap_or used 0 + text_width p)) ps))
     → (is_just 10 p ≡ false → turns n keeps used p ps ≡ false → fits n used (text_width p) ≡ false → P (10 ∷ (p ++ put_from n keeps (Some (text_width p)) ps)))
     → P (put_from n keeps used (p ∷ ps))
-by-placed n keeps used p ps P ends turn goes fit next = choose (cases_Bool (is_just 10 p))
+placed-cases n keeps used p ps P ends turn goes fit next = choose (cases_Bool (is_just 10 p))
   where
     Put : Placed → List ℕ
     Put q = put_by q p ++ put_from n keeps q.used ps
 
     in_line : is_just 10 p ≡ false → turns n keeps used p ps ≡ false → P (put_by (placed_in_line n used (text_width p)) p ++ put_from n keeps (Some (used_then n used (text_width p))) ps)
-    in_line apart stays_in = by (cases_Bool (fits n used (text_width p)))
+    in_line apart stays_in = fitted (cases_Bool (fits n used (text_width p)))
       where
-        by : (fits n used (text_width p) ≡ true) ⊎ (fits n used (text_width p) ≡ false) → P ((cond (not (fits n used (text_width p))) (10 ∷ []) [] ++ p) ++ put_from n keeps (Some (cond (fits n used (text_width p)) (unwrap_or used 0 + text_width p) (text_width p))) ps)
-        by (inl is) = rw is (fit apart stays_in is)
-        by (inr other) = rw other (next apart stays_in other)
+        fitted : (fits n used (text_width p) ≡ true) ⊎ (fits n used (text_width p) ≡ false) → P ((cond (not (fits n used (text_width p))) (10 ∷ []) [] ++ p) ++ put_from n keeps (Some (cond (fits n used (text_width p)) (unwrap_or used 0 + text_width p) (text_width p))) ps)
+        fitted (inl is) = rw is (fit apart stays_in is)
+        fitted (inr other) = rw other (next apart stays_in other)
 
     later : is_just 10 p ≡ false → (turns n keeps used p ps ≡ true) ⊎ (turns n keeps used p ps ≡ false) → P (put_from n keeps used (p ∷ ps))
     later apart (inr not_so) =
@@ -52,13 +52,13 @@ by-placed n keeps used p ps P ends turn goes fit next = choose (cases_Bool (is_j
         subst P (ap (λ (q : Placed). put_by q p ++ put_from n keeps q.used ps) (sym is)) (in_line apart not_so)
     later apart (inl so) =
         let blank = just-is 32 p (and_parts (is_just 32 p) (not (word_fits n used ps)) (and_parts keeps (is_just 32 p && not (word_fits n used ps)) so).1).0 in
-        by blank (cases_Bool (begins_word ps))
+        blank_later blank (cases_Bool (begins_word ps))
       where
-        by : p ≡ 32 ∷ [] → (begins_word ps ≡ true) ⊎ (begins_word ps ≡ false) → P (put_from n keeps used (p ∷ ps))
-        by blank (inl some) =
+        blank_later : p ≡ 32 ∷ [] → (begins_word ps ≡ true) ⊎ (begins_word ps ≡ false) → P (put_from n keeps used (p ∷ ps))
+        blank_later blank (inl some) =
             let is : placed n keeps used p ps ≡ record { breaks = true; is_put = false; used = None } = rw (apart, so, some) refl in
             subst P (ap (λ (q : Placed). put_by q p ++ put_from n keeps q.used ps) (sym is)) (turn blank)
-        by blank (inr none) =
+        blank_later blank (inr none) =
             let is : placed n keeps used p ps ≡ record { breaks = false; is_put = false; used = used } = rw (apart, so, none) refl in
             subst P (ap (λ (q : Placed). put_by q p ++ put_from n keeps q.used ps) (sym is)) (goes blank none)
 
@@ -72,7 +72,7 @@ by-placed n keeps used p ps P ends turn goes fit next = choose (cases_Bool (is_j
 
 pub put-kept : (n : ℕ) (keeps : Bool) (used : Option ℕ) (ps : List (List ℕ)) → filter is_of_word (put_from n keeps used ps) ≡ filter is_of_word (concat ps)
 put-kept n keeps used [] = refl
-put-kept n keeps used (p ∷ ps) = by-placed n keeps used p ps (λ cs. filter is_of_word cs ≡ filter is_of_word (p ++ concat ps))
+put-kept n keeps used (p ∷ ps) = placed-cases n keeps used p ps (λ cs. filter is_of_word cs ≡ filter is_of_word (p ++ concat ps))
     (λ is. rw is (put-kept n keeps None ps))
     (λ is. rw is (put-kept n keeps None ps))
     (λ is none. rw is (put-kept n keeps used ps))
@@ -109,11 +109,11 @@ no_columns = chain-sum [] tt refl
 
 filled-narrow : (n : ℕ) (line : List (List ℕ)) (used : Option ℕ) → Filled n line used → Chain line → IsLine (concat line) → IsNarrow n (concat line)
 filled-narrow n line None is h l = inl (omega (arith, ap (λ ps. text_width (concat ps)) is, no_columns))
-filled-narrow n line (Some used) is h l = by is.1
+filled-narrow n line (Some used) is h l = narrow-line is.1
   where
-    by : (columns_in line ≤ n) ⊎ ((p : List ℕ) × (line ≡ p ∷ []) × (pieces p ≡ p ∷ [])) → IsNarrow n (concat line)
-    by (inl fit) = inl (omega (arith, fit, chain-sum line h l))
-    by (inr one) =
+    narrow-line : (columns_in line ≤ n) ⊎ ((p : List ℕ) × (line ≡ p ∷ []) × (pieces p ≡ p ∷ [])) → IsNarrow n (concat line)
+    narrow-line (inl fit) = inl (omega (arith, fit, chain-sum line h l))
+    narrow-line (inr one) =
         let whole : concat line ≡ one.0 = ap concat one.1 ∙ append-nil one.0 in
         inr (ap pieces whole ∙ one.2 ∙ ap (λ xs. xs ∷ []) (sym whole))
 
@@ -133,11 +133,11 @@ filled-one n p own = ((let e : text_width p ≡ text_width p + 0 = omega arith i
 
 -- before a blank or a newline any piece ends
 stays-blank : (p : List ℕ) → stays p 32 ≡ false
-stays-blank p = by (cases_Bool (last_of p == 10))
+stays-blank p = blank-apart (cases_Bool (last_of p == 10))
   where
-    by : ((last_of p == 10) ≡ true) ⊎ ((last_of p == 10) ≡ false) → stays p 32 ≡ false
-    by (inl is) = rw is refl
-    by (inr other) = printable-stays 32 (omega arith) (omega arith) (last_of p) (ends_in_half_a_flag p) (last_cluster p) (eqb-false (last_of p) 10 other) ∙ never (last_of p == 0x200D)
+    blank-apart : ((last_of p == 10) ≡ true) ⊎ ((last_of p == 10) ≡ false) → stays p 32 ≡ false
+    blank-apart (inl is) = rw is refl
+    blank-apart (inr other) = printable-stays 32 (omega arith) (omega arith) (last_of p) (ends_in_half_a_flag p) (last_cluster p) (eqb-false (last_of p) 10 other) ∙ never (last_of p == 0x200D)
       where
         never : (b : Bool) → (b && false) ≡ false
         never true = refl
@@ -149,15 +149,15 @@ stays-end p = refl
 -- a blank that goes, before a space or at the end
 next-past : (p : List ℕ) (ps : List (List ℕ)) → begins_word ps ≡ false → Next p ps
 next-past p [] none = tt
-next-past p (q ∷ ps) none = by (or_cases (is_just 32 q) (is_just 10 q) (not_false (is_space q) none))
+next-past p (q ∷ ps) none = blank-follows (or_cases (is_just 32 q) (is_just 10 q) (not_false (is_space q) none))
   where
     not_false : (b : Bool) → not b ≡ false → b ≡ true
     not_false true h = refl
     not_false false h = absurd (false≢true (sym h))
 
-    by : (is_just 32 q ≡ true) ⊎ (is_just 10 q ≡ true) → Follows p q
-    by (inl is) = record { some = record { head = 32; tail = []; is = just-is 32 q is }; parted = stays-blank p }
-    by (inr is) = record { some = record { head = 10; tail = []; is = just-is 10 q is }; parted = stays-end p }
+    blank-follows : (is_just 32 q ≡ true) ⊎ (is_just 10 q ≡ true) → Follows p q
+    blank-follows (inl is) = record { some = record { head = 32; tail = []; is = just-is 32 q is }; parted = stays-blank p }
+    blank-follows (inr is) = record { some = record { head = 10; tail = []; is = just-is 10 q is }; parted = stays-end p }
 
 chain-past : (line : List (List ℕ)) (p : List ℕ) (ps : List (List ℕ)) → begins_word ps ≡ false → Chain (line ++ p ∷ ps) → Chain (line ++ ps)
 chain-past [] p ps none h = h.1.1
@@ -170,7 +170,7 @@ put-narrow : (n : ℕ) (keeps : Bool) (ps line : List (List ℕ)) (used : Option
 put-narrow n keeps [] line used is h l all =
     let h2 : Chain line = subst Chain (append-nil line) h in
     rw (append-nil (concat line), line-end (concat line) l) (filled-narrow n line used is h2 l, tt)
-put-narrow n keeps (p ∷ ps) line used is h l all = by-placed n keeps used p ps (λ cs. AreNarrow n (concat line ++ cs))
+put-narrow n keeps (p ∷ ps) line used is h l all = placed-cases n keeps used p ps (λ cs. AreNarrow n (concat line ++ cs))
     (λ _. turn (put-narrow n keeps ps [] None refl (chain-back (p ∷ []) ps (chain-back line (p ∷ ps) h)) refl all.1))
     (λ _. turn (put-narrow n keeps ps [] None refl (chain-back (p ∷ []) ps (chain-back line (p ∷ ps) h)) refl all.1))
     (λ _ none. put-narrow n keeps ps line used is (chain-past line p ps none h) l all.1)

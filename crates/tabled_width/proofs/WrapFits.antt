@@ -26,7 +26,7 @@ fit_each n all = list_all (λ line. nat_le (columns_in line) n) all
 
 fit_from : (n used : ℕ) (ps : List (List ℕ)) → used ≤ n → all_fit n used ps ≡ (line_fits n used (first_part (slice_split (is_just 10) ps)) && fit_each n (other_parts (slice_split (is_just 10) ps)))
 fit_from n used [] h = sym (ap (λ b. b && true) (le-leb (used + 0) n (omega (arith, h))))
-fit_from n used (p ∷ ps) h = by (cases_Bool (is_just 10 p)) (fit_from n 0 ps (omega arith)) (λ fits. fit_from n (used + text_width p) ps fits) (leb_tells (used + text_width p) n)
+fit_from n used (p ∷ ps) h = fit-next (cases_Bool (is_just 10 p)) (fit_from n 0 ps (omega arith)) (λ fits. fit_from n (used + text_width p) ps fits) (leb_tells (used + text_width p) n)
   where
     all : List (List (List ℕ))
     all = slice_split (is_just 10) ps
@@ -43,10 +43,10 @@ fit_from n used (p ∷ ps) h = by (cases_Bool (is_just 10 p)) (fit_from n 0 ps (
     sum : used + text_width p + columns_in (first_part all) ≡ used + columns_in (p ∷ first_part all)
     sum = omega (arith, columns)
 
-    by : (is_just 10 p ≡ true) ⊎ (is_just 10 p ≡ false) → all_fit n 0 ps ≡ (line_fits n 0 (first_part all) && fit_each n (other_parts all)) → (used + text_width p ≤ n → all_fit n (used + text_width p) ps ≡ (line_fits n (used + text_width p) (first_part all) && fit_each n (other_parts all))) → ((nat_le (used + text_width p) n ≡ true) × (used + text_width p ≤ n)) ⊎ ((nat_le (used + text_width p) n ≡ false) × (n < used + text_width p)) → all_fit n used (p ∷ ps) ≡ (line_fits n used (first_part (slice_split (is_just 10) (p ∷ ps))) && fit_each n (other_parts (slice_split (is_just 10) (p ∷ ps))))
-    by (inl is) next more t = rw (is, le-leb (used + 0) n (omega (arith, h))) (next ∙ ap (λ k. nat_le k n && fit_each n (other_parts all)) (let e : 0 + columns_in (first_part all) ≡ columns_in (first_part all) = omega arith in e) ∙ ap (fit_each n) (sym (in_parts (is_just 10) ps)))
-    by (inr apart) next more (inl t) = (rw (apart, t.0) (more t.1 ∙ ap (λ k. nat_le k n && fit_each n (other_parts all)) sum)) ∙ wanted apart
-    by (inr apart) next more (inr t) =
+    fit-next : (is_just 10 p ≡ true) ⊎ (is_just 10 p ≡ false) → all_fit n 0 ps ≡ (line_fits n 0 (first_part all) && fit_each n (other_parts all)) → (used + text_width p ≤ n → all_fit n (used + text_width p) ps ≡ (line_fits n (used + text_width p) (first_part all) && fit_each n (other_parts all))) → ((nat_le (used + text_width p) n ≡ true) × (used + text_width p ≤ n)) ⊎ ((nat_le (used + text_width p) n ≡ false) × (n < used + text_width p)) → all_fit n used (p ∷ ps) ≡ (line_fits n used (first_part (slice_split (is_just 10) (p ∷ ps))) && fit_each n (other_parts (slice_split (is_just 10) (p ∷ ps))))
+    fit-next (inl is) next more t = rw (is, le-leb (used + 0) n (omega (arith, h))) (next ∙ ap (λ k. nat_le k n && fit_each n (other_parts all)) (let e : 0 + columns_in (first_part all) ≡ columns_in (first_part all) = omega arith in e) ∙ ap (fit_each n) (sym (in_parts (is_just 10) ps)))
+    fit-next (inr apart) next more (inl t) = (rw (apart, t.0) (more t.1 ∙ ap (λ k. nat_le k n && fit_each n (other_parts all)) sum)) ∙ wanted apart
+    fit-next (inr apart) next more (inr t) =
         let over : line_fits n used (p ∷ first_part all) ≡ false = lt-leb _ n (omega (arith, t.1, sum)) in
         (rw (apart, t.0, over) refl) ∙ wanted apart
 
@@ -66,12 +66,12 @@ fits_parts n used p ps apart h =
 -- where each line fits, so does the first word
 first_fits : (n used : ℕ) (ps : List (List ℕ)) → used ≤ n → all_fit n used ps ≡ true → used + columns_in (first_word ps) ≤ n
 first_fits n used [] within h = omega (arith, within)
-first_fits n used (p ∷ ps) within h = by (cases_Bool (is_just 32 p)) (cases_Bool (is_just 10 p)) (λ k. first_fits n k ps)
+first_fits n used (p ∷ ps) within h = first-next (cases_Bool (is_just 32 p)) (cases_Bool (is_just 10 p)) (λ k. first_fits n k ps)
   where
-    by : (is_just 32 p ≡ true) ⊎ (is_just 32 p ≡ false) → (is_just 10 p ≡ true) ⊎ (is_just 10 p ≡ false) → ((k : ℕ) → k ≤ n → all_fit n k ps ≡ true → k + columns_in (first_word ps) ≤ n) → used + columns_in (cond (is_just 32 p || is_just 10 p) [] (p ∷ first_word ps)) ≤ n
-    by (inl is) newline more = rw is (omega (arith, within))
-    by (inr apart) (inl is) more = rw (apart, is) (omega (arith, within))
-    by (inr apart) (inr no_newline) more =
+    first-next : (is_just 32 p ≡ true) ⊎ (is_just 32 p ≡ false) → (is_just 10 p ≡ true) ⊎ (is_just 10 p ≡ false) → ((k : ℕ) → k ≤ n → all_fit n k ps ≡ true → k + columns_in (first_word ps) ≤ n) → used + columns_in (cond (is_just 32 p || is_just 10 p) [] (p ∷ first_word ps)) ≤ n
+    first-next (inl is) newline more = rw is (omega (arith, within))
+    first-next (inr apart) (inl is) more = rw (apart, is) (omega (arith, within))
+    first-next (inr apart) (inr no_newline) more =
         let parts = fits_parts n used p ps no_newline h in
         rw (apart, no_newline, sum_by-cons text_width p (first_word ps)) (omega (arith, more (used + text_width p) parts.0 parts.1))
 
@@ -81,7 +81,7 @@ fits_line n (Some used) columns h = let one = le-leb (used + columns) n h in (on
 
 pub put-same : (n : ℕ) (keeps : Bool) (used : Option ℕ) (ps : List (List ℕ)) → unwrap_or used 0 ≤ n → all_fit n (unwrap_or used 0) ps ≡ true → put_from n keeps used ps ≡ concat ps
 put-same n keeps used [] within h = refl
-put-same n keeps used (p ∷ ps) within h = by (cases_Bool (is_just 10 p)) (λ k. put-same n keeps k ps)
+put-same n keeps used (p ∷ ps) within h = put-next (cases_Bool (is_just 10 p)) (λ k. put-same n keeps k ps)
   where
     More : Type 0
     More = (k : Option ℕ) → unwrap_or k 0 ≤ n → all_fit n (unwrap_or k 0) ps ≡ true → put_from n keeps k ps ≡ concat ps
@@ -118,9 +118,9 @@ put-same n keeps used (p ∷ ps) within h = by (cases_Bool (is_just 10 p)) (λ k
         put : (b : Bool) → b ≡ true → (cond (not b) (10 ∷ []) [] ++ p) ++ put_from n keeps (Some (used_then n used (text_width p))) ps ≡ p ++ put_from n keeps (Some (used_then n used (text_width p))) ps
         put b e = rw e refl
 
-    by : (is_just 10 p ≡ true) ⊎ (is_just 10 p ≡ false) → More → put_from n keeps used (p ∷ ps) ≡ p ++ concat ps
-    by (inl is) more = rw (just-is 10 p is) (ap (λ xs. 10 ∷ xs) (more None (omega arith) (rw is at h)))
-    by (inr apart) more = other apart more
+    put-next : (is_just 10 p ≡ true) ⊎ (is_just 10 p ≡ false) → More → put_from n keeps used (p ∷ ps) ≡ p ++ concat ps
+    put-next (inl is) more = rw (just-is 10 p is) (ap (λ xs. 10 ∷ xs) (more None (omega arith) (rw is at h)))
+    put-next (inr apart) more = other apart more
 
 -- a text whose lines fit is as it was
 pub text-same : (n : ℕ) → 1 ≤ n → (keeps : Bool) (text : List ℕ) → IsUtf8 text → all_lines_fit n (chars text) ≡ true → text ≡ wrapped (n, keeps) text

@@ -34,15 +34,15 @@ others_onto x (part ∷ parts) = refl
 -- what is split has a first part
 pub in_parts : {A : Type 0} (test : A → Bool) (xs : List A) → slice_split test xs ≡ first_part (slice_split test xs) ∷ other_parts (slice_split test xs)
 in_parts test [] = refl
-in_parts test (x ∷ xs) = by (test x)
+in_parts test (x ∷ xs) = parts-next (test x)
   where
     onto : (parts : List (List _)) → onto_first x parts ≡ first_part (onto_first x parts) ∷ other_parts (onto_first x parts)
     onto [] = refl
     onto (part ∷ parts) = refl
 
-    by : (b : Bool) → cond b ([] ∷ slice_split test xs) (onto_first x (slice_split test xs)) ≡ first_part (cond b ([] ∷ slice_split test xs) (onto_first x (slice_split test xs))) ∷ other_parts (cond b ([] ∷ slice_split test xs) (onto_first x (slice_split test xs)))
-    by true = refl
-    by false = onto (slice_split test xs)
+    parts-next : (b : Bool) → cond b ([] ∷ slice_split test xs) (onto_first x (slice_split test xs)) ≡ first_part (cond b ([] ∷ slice_split test xs) (onto_first x (slice_split test xs))) ∷ other_parts (cond b ([] ∷ slice_split test xs) (onto_first x (slice_split test xs)))
+    parts-next true = refl
+    parts-next false = onto (slice_split test xs)
 
 -- ---- a line
 
@@ -57,11 +57,11 @@ line_parts p line h =
 
 -- a piece that is put in any case
 put_piece : (n : ℕ) (used : Option ℕ) (p rest : List ℕ) → put_by (placed_in_line n used (text_width p)) p ++ rest ≡ cond (fits n used (text_width p)) [] (10 ∷ []) ++ (p ++ rest)
-put_piece n used p rest = by (fits n used (text_width p))
+put_piece n used p rest = put_newline (fits n used (text_width p))
   where
-    by : (b : Bool) → (cond (not b) (10 ∷ []) [] ++ p) ++ rest ≡ cond b [] (10 ∷ []) ++ (p ++ rest)
-    by true = refl
-    by false = refl
+    put_newline : (b : Bool) → (cond (not b) (10 ∷ []) [] ++ p) ++ rest ≡ cond b [] (10 ∷ []) ++ (p ++ rest)
+    put_newline true = refl
+    put_newline false = refl
 
 -- cut between any pieces
 put_anywhere : (n : ℕ) (used : Option ℕ) (line : List (List ℕ)) → IsLine line → put_from n false used line ≡ broken n used line
@@ -78,11 +78,11 @@ first_is : (line : List (List ℕ)) → IsLine line → (first_word line ≡ fir
 first_is [] h = (refl, refl)
 first_is (p ∷ line) h =
     let parts = line_parts p line h in
-    rw parts.0 (by (is_just 32 p) (first_is line parts.1).0)
+    rw parts.0 (first-next (is_just 32 p) (first_is line parts.1).0)
   where
-    by : (b : Bool) → first_word line ≡ first_part (slice_split (is_just 32) line) → (cond (b || false) [] (p ∷ first_word line) ≡ first_part (cond b ([] ∷ slice_split (is_just 32) line) (onto_first p (slice_split (is_just 32) line)))) × (not (b || false) ≡ not (is_empty (first_part (cond b ([] ∷ slice_split (is_just 32) line) (onto_first p (slice_split (is_just 32) line))))))
-    by true rest = (refl, refl)
-    by false rest = (ap (λ ps. p ∷ ps) rest ∙ sym (first_onto p (slice_split (is_just 32) line)), ap (λ ps. not (is_empty ps)) (sym (first_onto p (slice_split (is_just 32) line))))
+    first-next : (b : Bool) → first_word line ≡ first_part (slice_split (is_just 32) line) → (cond (b || false) [] (p ∷ first_word line) ≡ first_part (cond b ([] ∷ slice_split (is_just 32) line) (onto_first p (slice_split (is_just 32) line)))) × (not (b || false) ≡ not (is_empty (first_part (cond b ([] ∷ slice_split (is_just 32) line) (onto_first p (slice_split (is_just 32) line))))))
+    first-next true rest = (refl, refl)
+    first-next false rest = (ap (λ ps. p ∷ ps) rest ∙ sym (first_onto p (slice_split (is_just 32) line)), ap (λ ps. not (is_empty ps)) (sym (first_onto p (slice_split (is_just 32) line))))
 
 pub blank_width : text_width (32 ∷ []) ≡ 1
 blank_width = str_width-printable false (32 ∷ []) refl
@@ -127,7 +127,7 @@ module _ (n : ℕ) (line : List (List ℕ)) where
 -- pieces are put as words behind a line
 put_words : (n : ℕ) (used : Option ℕ) (line : List (List ℕ)) → IsLine line → put_from n true used line ≡ broken n used (first_part (slice_split (is_just 32) line)) ++ with_words n (last_used n used (first_part (slice_split (is_just 32) line))) (other_parts (slice_split (is_just 32) line))
 put_words n used [] h = refl
-put_words n used (p ∷ line) h = by (cases_Bool (is_just 32 p)) (λ k. put_words n k line (line_parts p line h).1)
+put_words n used (p ∷ line) h = words-next (cases_Bool (is_just 32 p)) (λ k. put_words n k line (line_parts p line h).1)
   where
     parts : (is_just 10 p ≡ false) × IsLine line
     parts = line_parts p line h
@@ -159,9 +159,9 @@ put_words n used (p ∷ line) h = by (cases_Bool (is_just 32 p)) (λ k. put_word
         ∙ ap (λ xs. turn ++ (p ++ xs)) (more then)
         ∙ regroup turn (broken n then (first_part words)) (with_words n (last_used n then (first_part words)) (other_parts words))
 
-    by : (is_just 32 p ≡ true) ⊎ (is_just 32 p ≡ false) → More → put_from n true used (p ∷ line) ≡ broken n used (first_part (slice_split (is_just 32) (p ∷ line))) ++ with_words n (last_used n used (first_part (slice_split (is_just 32) (p ∷ line)))) (other_parts (slice_split (is_just 32) (p ∷ line)))
-    by (inl is) more = rw (just-is 32 p is) (blank more)
-    by (inr other) more =
+    words-next : (is_just 32 p ≡ true) ⊎ (is_just 32 p ≡ false) → More → put_from n true used (p ∷ line) ≡ broken n used (first_part (slice_split (is_just 32) (p ∷ line))) ++ with_words n (last_used n used (first_part (slice_split (is_just 32) (p ∷ line)))) (other_parts (slice_split (is_just 32) (p ∷ line)))
+    words-next (inl is) more = rw (just-is 32 p is) (blank more)
+    words-next (inr other) more =
         let split : slice_split (is_just 32) (p ∷ line) ≡ onto_first p words = rw other refl in
         word more other ∙ sym (ap₂ (λ w ws. broken n used w ++ with_words n (last_used n used w) ws) (ap first_part split ∙ first_onto p words) (ap other_parts split ∙ others_onto p words))
 
@@ -175,14 +175,14 @@ put-line n true line h = put_words n None line h ∙ ap (words_wrapped n) (sym (
 -- the first word of a text is that of its first line
 first_of_line : (ps : List (List ℕ)) → (first_word ps ≡ first_word (first_part (slice_split (is_just 10) ps))) × (begins_word ps ≡ begins_word (first_part (slice_split (is_just 10) ps)))
 first_of_line [] = (refl, refl)
-first_of_line (p ∷ ps) = by (cases_Bool (is_just 10 p)) (first_of_line ps).0
+first_of_line (p ∷ ps) = first_of_next (cases_Bool (is_just 10 p)) (first_of_line ps).0
   where
     all : List (List (List ℕ))
     all = slice_split (is_just 10) ps
 
-    by : (is_just 10 p ≡ true) ⊎ (is_just 10 p ≡ false) → first_word ps ≡ first_word (first_part all) → (first_word (p ∷ ps) ≡ first_word (first_part (slice_split (is_just 10) (p ∷ ps)))) × (begins_word (p ∷ ps) ≡ begins_word (first_part (slice_split (is_just 10) (p ∷ ps))))
-    by (inl is) rest = rw (just-is 10 p is) (refl, refl)
-    by (inr other) rest =
+    first_of_next : (is_just 10 p ≡ true) ⊎ (is_just 10 p ≡ false) → first_word ps ≡ first_word (first_part all) → (first_word (p ∷ ps) ≡ first_word (first_part (slice_split (is_just 10) (p ∷ ps)))) × (begins_word (p ∷ ps) ≡ begins_word (first_part (slice_split (is_just 10) (p ∷ ps))))
+    first_of_next (inl is) rest = rw (just-is 10 p is) (refl, refl)
+    first_of_next (inr other) rest =
         let split : slice_split (is_just 10) (p ∷ ps) ≡ onto_first p all = rw other refl in
         let first : first_part (slice_split (is_just 10) (p ∷ ps)) ≡ p ∷ first_part all = ap first_part split ∙ first_onto p all in
         (ap (λ ws. cond (is_space p) [] (p ∷ ws)) rest ∙ ap first_word (sym first), ap begins_word (sym first))
@@ -194,7 +194,7 @@ join_front front line (next ∷ others) = append_assoc front line (10 ∷ join_w
 
 put_lines : (n : ℕ) (keeps : Bool) (used : Option ℕ) (ps : List (List ℕ)) → put_from n keeps used ps ≡ join_with_byte 10 (put_from n keeps used (first_part (slice_split (is_just 10) ps)) ∷ map (put_from n keeps None) (other_parts (slice_split (is_just 10) ps)))
 put_lines n keeps used [] = refl
-put_lines n keeps used (p ∷ ps) = by (cases_Bool (is_just 10 p)) (λ k. put_lines n keeps k ps)
+put_lines n keeps used (p ∷ ps) = lines-next (cases_Bool (is_just 10 p)) (λ k. put_lines n keeps k ps)
   where
     all : List (List (List ℕ))
     all = slice_split (is_just 10) ps
@@ -214,24 +214,24 @@ put_lines n keeps used (p ∷ ps) = by (cases_Bool (is_just 10 p)) (λ k. put_li
         ∙ ap (λ xs. put_by (placed n keeps used p (first_part all)) p ++ xs) (more (placed n keeps used p (first_part all)).used)
         ∙ sym (join_front (put_by (placed n keeps used p (first_part all)) p) (put_from n keeps (placed n keeps used p (first_part all)).used (first_part all)) (map (put_from n keeps None) (other_parts all)))
 
-    by : (is_just 10 p ≡ true) ⊎ (is_just 10 p ≡ false) → More → put_from n keeps used (p ∷ ps) ≡ join_with_byte 10 (put_from n keeps used (first_part (slice_split (is_just 10) (p ∷ ps))) ∷ map (put_from n keeps None) (other_parts (slice_split (is_just 10) (p ∷ ps))))
-    by (inl is) more = rw (just-is 10 p is) (newline more)
-    by (inr apart) more =
+    lines-next : (is_just 10 p ≡ true) ⊎ (is_just 10 p ≡ false) → More → put_from n keeps used (p ∷ ps) ≡ join_with_byte 10 (put_from n keeps used (first_part (slice_split (is_just 10) (p ∷ ps))) ∷ map (put_from n keeps None) (other_parts (slice_split (is_just 10) (p ∷ ps))))
+    lines-next (inl is) more = rw (just-is 10 p is) (newline more)
+    lines-next (inr apart) more =
         let split : slice_split (is_just 10) (p ∷ ps) ≡ onto_first p all = rw apart refl in
         other more ∙ sym (ap₂ (λ l ls. join_with_byte 10 (put_from n keeps used l ∷ map (put_from n keeps None) ls)) (ap first_part split ∙ first_onto p all) (ap other_parts split ∙ others_onto p all))
 
 -- the lines of a text have no newline
 pub are-lines : (ps : List (List ℕ)) → AllByRecursion IsLine (slice_split (is_just 10) ps)
 are-lines [] = (refl, tt)
-are-lines (p ∷ ps) = by (cases_Bool (is_just 10 p)) (slice_split (is_just 10) ps) (are-lines ps)
+are-lines (p ∷ ps) = next-lines (cases_Bool (is_just 10 p)) (slice_split (is_just 10) ps) (are-lines ps)
   where
     onto : is_just 10 p ≡ false → (all : List (List (List ℕ))) → AllByRecursion IsLine all → AllByRecursion IsLine (onto_first p all)
     onto apart [] h = (rw apart refl, tt)
     onto apart (line ∷ all) h = (rw apart h.0, h.1)
 
-    by : (is_just 10 p ≡ true) ⊎ (is_just 10 p ≡ false) → (all : List (List (List ℕ))) → AllByRecursion IsLine all → AllByRecursion IsLine (cond (is_just 10 p) ([] ∷ all) (onto_first p all))
-    by (inl is) all h = rw is (refl, h)
-    by (inr apart) all h = rw apart (onto apart all h)
+    next-lines : (is_just 10 p ≡ true) ⊎ (is_just 10 p ≡ false) → (all : List (List (List ℕ))) → AllByRecursion IsLine all → AllByRecursion IsLine (cond (is_just 10 p) ([] ∷ all) (onto_first p all))
+    next-lines (inl is) all h = rw is (refl, h)
+    next-lines (inr apart) all h = rw apart (onto apart all h)
 
 put_each : (n : ℕ) (keeps : Bool) (all : List (List (List ℕ))) → AllByRecursion IsLine all → map (put_from n keeps None) all ≡ map (wrapped_line n keeps) all
 put_each n keeps [] h = refl

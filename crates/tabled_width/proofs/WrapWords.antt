@@ -4,7 +4,7 @@ use Rattle.std.proofs.lemmas.Bool.{cases_Bool, false≢true}
 use Rattle.std.proofs.lemmas.List.Sums.{sum_by-cons}
 use Rattle.std.specs.List.{concat, onto_first, slice_split}
 use Rattle.tabled_width.proofs.Spaces.{just-is}
-use Rattle.tabled_width.proofs.WrapFacts.{by-placed, turns}
+use Rattle.tabled_width.proofs.WrapFacts.{placed-cases, turns}
 use Rattle.tabled_width.proofs.WrapLines.{blank_width, first_onto, first_part, in_parts, other_parts, put-text}
 use Rattle.tabled_width.specs.Columns.{text_width}
 use Rattle.tabled_width.specs.Pieces.{columns_in, is_just, is_space, pieces, words}
@@ -26,11 +26,11 @@ parts_of n (p ∷ ps) = parts_from n p (text_width p) ps
 
 parts-whole : (n : ℕ) (cur : List ℕ) (used : ℕ) (ps : List (List ℕ)) → concat (parts_from n cur used ps) ≡ cur ++ concat ps
 parts-whole n cur used [] = refl
-parts-whole n cur used (p ∷ ps) = by (nat_le (used + text_width p) n) (parts-whole n (cur ++ p) (used + text_width p) ps) (parts-whole n p (text_width p) ps)
+parts-whole n cur used (p ∷ ps) = whole-next (nat_le (used + text_width p) n) (parts-whole n (cur ++ p) (used + text_width p) ps) (parts-whole n p (text_width p) ps)
   where
-    by : (b : Bool) → concat (parts_from n (cur ++ p) (used + text_width p) ps) ≡ (cur ++ p) ++ concat ps → concat (parts_from n p (text_width p) ps) ≡ p ++ concat ps → concat (cond b (parts_from n (cur ++ p) (used + text_width p) ps) (cur ∷ parts_from n p (text_width p) ps)) ≡ cur ++ (p ++ concat ps)
-    by true more rest = more ∙ append_assoc cur p (concat ps)
-    by false more rest = ap (λ xs. cur ++ xs) rest
+    whole-next : (b : Bool) → concat (parts_from n (cur ++ p) (used + text_width p) ps) ≡ (cur ++ p) ++ concat ps → concat (parts_from n p (text_width p) ps) ≡ p ++ concat ps → concat (cond b (parts_from n (cur ++ p) (used + text_width p) ps) (cur ∷ parts_from n p (text_width p) ps)) ≡ cur ++ (p ++ concat ps)
+    whole-next true more rest = more ∙ append_assoc cur p (concat ps)
+    whole-next false more rest = ap (λ xs. cur ++ xs) rest
 
 parts-one : (n : ℕ) (cur : List ℕ) (used : ℕ) (ps : List (List ℕ)) → used + columns_in ps ≤ n → parts_from n cur used ps ≡ (cur ++ concat ps) ∷ []
 parts-one n cur used [] fit = ap (λ xs. xs ∷ []) (sym (append-nil cur))
@@ -52,20 +52,20 @@ all_parts n ws = flat_map (parts_of n) ws
 
 first-is : (ps : List (List ℕ)) → first_word ps ≡ first_part (split ps)
 first-is [] = refl
-first-is (p ∷ ps) = by (is_space p) (first-is ps)
+first-is (p ∷ ps) = first-next (is_space p) (first-is ps)
   where
-    by : (b : Bool) → first_word ps ≡ first_part (split ps) → cond b [] (p ∷ first_word ps) ≡ first_part (cond b ([] ∷ split ps) (onto_first p (split ps)))
-    by true e = refl
-    by false e = ap (λ ws. p ∷ ws) e ∙ sym (first_onto p (split ps))
+    first-next : (b : Bool) → first_word ps ≡ first_part (split ps) → cond b [] (p ∷ first_word ps) ≡ first_part (cond b ([] ∷ split ps) (onto_first p (split ps)))
+    first-next true e = refl
+    first-next false e = ap (λ ws. p ∷ ws) e ∙ sym (first_onto p (split ps))
 
 -- where no word comes first, the first is empty
 none-first : (ps : List (List ℕ)) → begins_word ps ≡ false → first_part (split ps) ≡ []
 none-first [] h = refl
-none-first (p ∷ ps) h = by (is_space p) h
+none-first (p ∷ ps) h = none-next (is_space p) h
   where
-    by : (b : Bool) → not b ≡ false → first_part (cond b ([] ∷ split ps) (onto_first p (split ps))) ≡ []
-    by true h = refl
-    by false h = absurd (false≢true (sym h))
+    none-next : (b : Bool) → not b ≡ false → first_part (cond b ([] ∷ split ps) (onto_first p (split ps))) ≡ []
+    none-next true h = refl
+    none-next false h = absurd (false≢true (sym h))
 
 -- ---- spaced
 
@@ -126,7 +126,7 @@ module _ (n : ℕ) (p : List ℕ) (ps : List (List ℕ)) (more : Claims n ps) wh
   Begun cur used ws cs = AreSpaced (parts_from n cur used (first_part ws) ++ all_parts n (other_parts ws)) (cur ++ cs)
 
   begun-step : (cur : List ℕ) (used : ℕ) → Begun cur used (split (p ∷ ps)) (put_from n true (Some used) (p ∷ ps))
-  begun-step cur used = by-placed n true (Some used) p ps (Begun cur used (split (p ∷ ps))) ends turn goes fit next
+  begun-step cur used = placed-cases n true (Some used) p ps (Begun cur used (split (p ∷ ps))) ends turn goes fit next
     where
       ends : p ≡ 10 ∷ [] → Begun cur used (split (p ∷ ps)) (10 ∷ put_from n true None ps)
       ends is = rw is (part-gap cur (all_parts n (split ps)) 10 (put_from n true None ps) refl (more.fresh None tt))
@@ -142,26 +142,26 @@ module _ (n : ℕ) (p : List ℕ) (ps : List (List ℕ)) (more : Claims n ps) wh
           rw is (subst (λ qs. AreSpaced (cur ∷ qs) (cur ++ put_from n true (Some used) ps)) (sym all) same)
 
       fit : is_just 10 p ≡ false → turns n true (Some used) p ps ≡ false → fits n (Some used) (text_width p) ≡ true → Begun cur used (split (p ∷ ps)) (p ++ put_from n true (Some (used + text_width p)) ps)
-      fit apart stays_in is = by (cases_Bool (is_just 32 p))
+      fit apart stays_in is = fit-next (cases_Bool (is_just 32 p))
         where
-          by : (is_just 32 p ≡ true) ⊎ (is_just 32 p ≡ false) → Begun cur used (split (p ∷ ps)) (p ++ put_from n true (Some (used + text_width p)) ps)
-          by (inl blank) =
+          fit-next : (is_just 32 p ≡ true) ⊎ (is_just 32 p ≡ false) → Begun cur used (split (p ∷ ps)) (p ++ put_from n true (Some (used + text_width p)) ps)
+          fit-next (inl blank) =
               let e = just-is 32 p blank in
               let room = blank-fits n (Some used) ps (subst (λ q. turns n true (Some used) q ps ≡ false) e stays_in) in
               rw e (part-gap cur (all_parts n (split ps)) 32 (put_from n true (Some (used + text_width (32 ∷ []))) ps) refl (more.fresh (Some (used + text_width (32 ∷ []))) room))
-          by (inr word) =
+          fit-next (inr word) =
               subst (λ ws. Begun cur used ws (p ++ put_from n true (Some (used + text_width p)) ps)) (sym (word-split word apart))
               (rw is (subst (AreSpaced (parts_from n (cur ++ p) (used + text_width p) (first_part (split ps)) ++ all_parts n (other_parts (split ps)))) (append_assoc cur p (put_from n true (Some (used + text_width p)) ps)) (more.begun (cur ++ p) (used + text_width p))))
 
       next : is_just 10 p ≡ false → turns n true (Some used) p ps ≡ false → fits n (Some used) (text_width p) ≡ false → Begun cur used (split (p ∷ ps)) (10 ∷ (p ++ put_from n true (Some (text_width p)) ps))
-      next apart stays_in over = by (cases_Bool (is_just 32 p))
+      next apart stays_in over = begun-next (cases_Bool (is_just 32 p))
         where
-          by : (is_just 32 p ≡ true) ⊎ (is_just 32 p ≡ false) → Begun cur used (split (p ∷ ps)) (10 ∷ (p ++ put_from n true (Some (text_width p)) ps))
-          by (inl blank) =
+          begun-next : (is_just 32 p ≡ true) ⊎ (is_just 32 p ≡ false) → Begun cur used (split (p ∷ ps)) (10 ∷ (p ++ put_from n true (Some (text_width p)) ps))
+          begun-next (inl blank) =
               let e = just-is 32 p blank in
               let room = blank-fits n (Some used) ps (subst (λ q. turns n true (Some used) q ps ≡ false) e stays_in) in
               absurd (over-fits n used (text_width (32 ∷ [])) (omega (arith, room)) (ap (λ q. fits n (Some used) (text_width q)) (sym e) ∙ over))
-          by (inr word) =
+          begun-next (inr word) =
               subst (λ ws. Begun cur used ws (10 ∷ (p ++ put_from n true (Some (text_width p)) ps))) (sym (word-split word apart))
               (rw over (part-gap cur (parts_from n p (text_width p) (first_part (split ps)) ++ all_parts n (other_parts (split ps))) 10 (p ++ put_from n true (Some (text_width p)) ps) refl (more.begun p (text_width p))))
 
@@ -179,7 +179,7 @@ module _ (n : ℕ) (p : List ℕ) (ps : List (List ℕ)) (more : Claims n ps) wh
       subst (λ qs. AreSpaced (qs ++ all_parts n (other_parts (split ps))) (p ++ put_from n true (Some (used + text_width p)) ps)) here (more.begun p (used + text_width p))
 
   fresh-step : (used : Option ℕ) → HasRoom n used (p ∷ ps) → Fresh (split (p ∷ ps)) (put_from n true used (p ∷ ps))
-  fresh-step used room = by-placed n true used p ps (Fresh (split (p ∷ ps))) ends turn goes fit next
+  fresh-step used room = placed-cases n true used p ps (Fresh (split (p ∷ ps))) ends turn goes fit next
     where
       ends : p ≡ 10 ∷ [] → Fresh (split (p ∷ ps)) (10 ∷ put_from n true None ps)
       ends is = rw is (gap-more 10 refl (all_parts n (split ps)) (put_from n true None ps) (more.fresh None tt))
@@ -188,34 +188,34 @@ module _ (n : ℕ) (p : List ℕ) (ps : List (List ℕ)) (more : Claims n ps) wh
       turn is = rw is (gap-more 10 refl (all_parts n (split ps)) (put_from n true None ps) (more.fresh None tt))
 
       goes : p ≡ 32 ∷ [] → begins_word ps ≡ false → Fresh (split (p ∷ ps)) (put_from n true used ps)
-      goes is none = rw is (more.fresh used (by used room))
+      goes is none = rw is (more.fresh used (room-left used room))
         where
-          by : (used : Option ℕ) → HasRoom n used (p ∷ ps) → HasRoom n used ps
-          by None r = tt
-          by (Some k) r =
+          room-left : (used : Option ℕ) → HasRoom n used (p ∷ ps) → HasRoom n used ps
+          room-left None r = tt
+          room-left (Some k) r =
               let empty : first_part (split (p ∷ ps)) ≡ [] = ap (λ q. first_part (split (q ∷ ps))) is in
               subst (λ w. k + columns_in w ≤ n) (empty ∙ sym (none-first ps none)) r
 
       fit : is_just 10 p ≡ false → turns n true used p ps ≡ false → fits n used (text_width p) ≡ true → Fresh (split (p ∷ ps)) (p ++ put_from n true (Some (unwrap_or used 0 + text_width p)) ps)
-      fit apart stays_in is = by (cases_Bool (is_just 32 p))
+      fit apart stays_in is = fit-next (cases_Bool (is_just 32 p))
         where
-          by : (is_just 32 p ≡ true) ⊎ (is_just 32 p ≡ false) → Fresh (split (p ∷ ps)) (p ++ put_from n true (Some (unwrap_or used 0 + text_width p)) ps)
-          by (inl blank) =
+          fit-next : (is_just 32 p ≡ true) ⊎ (is_just 32 p ≡ false) → Fresh (split (p ∷ ps)) (p ++ put_from n true (Some (unwrap_or used 0 + text_width p)) ps)
+          fit-next (inl blank) =
               let e = just-is 32 p blank in
               let wide = blank-fits n used ps (subst (λ q. turns n true used q ps ≡ false) e stays_in) in
               rw e (gap-more 32 refl (all_parts n (split ps)) (put_from n true (Some (unwrap_or used 0 + text_width (32 ∷ []))) ps) (more.fresh (Some (unwrap_or used 0 + text_width (32 ∷ []))) wide))
-          by (inr word) = subst (λ ws. AreSpaced (all_parts n ws) (p ++ put_from n true (Some (unwrap_or used 0 + text_width p)) ps)) (sym (word-split word apart)) (word-begins used room word apart)
+          fit-next (inr word) = subst (λ ws. AreSpaced (all_parts n ws) (p ++ put_from n true (Some (unwrap_or used 0 + text_width p)) ps)) (sym (word-split word apart)) (word-begins used room word apart)
 
       next : is_just 10 p ≡ false → turns n true used p ps ≡ false → fits n used (text_width p) ≡ false → Fresh (split (p ∷ ps)) (10 ∷ (p ++ put_from n true (Some (text_width p)) ps))
-      next apart stays_in over = absurd (by used room (cases_Bool (is_just 32 p)) stays_in over)
+      next apart stays_in over = absurd (always-fits used room (cases_Bool (is_just 32 p)) stays_in over)
         where
-          by : (used : Option ℕ) → HasRoom n used (p ∷ ps) → (is_just 32 p ≡ true) ⊎ (is_just 32 p ≡ false) → turns n true used p ps ≡ false → fits n used (text_width p) ≡ false → ⊥
-          by None r w t over = false≢true (sym over)
-          by (Some k) r (inl blank) t over =
+          always-fits : (used : Option ℕ) → HasRoom n used (p ∷ ps) → (is_just 32 p ≡ true) ⊎ (is_just 32 p ≡ false) → turns n true used p ps ≡ false → fits n used (text_width p) ≡ false → ⊥
+          always-fits None r w t over = false≢true (sym over)
+          always-fits (Some k) r (inl blank) t over =
               let e = just-is 32 p blank in
               let wide = blank-fits n (Some k) ps (subst (λ q. turns n true (Some k) q ps ≡ false) e t) in
               over-fits n k (text_width (32 ∷ [])) (omega (arith, wide)) (ap (λ q. fits n (Some k) (text_width q)) (sym e) ∙ over)
-          by (Some k) r (inr word) t over =
+          always-fits (Some k) r (inr word) t over =
               let columns : k + (text_width p + columns_in (first_part (split ps))) ≤ n = subst (λ m. k + m ≤ n) (ap columns_in (ap first_part (word-split word apart)) ∙ sum_by-cons text_width p (first_part (split ps))) r in
               over-fits n k (text_width p) (omega (arith, columns)) over
 

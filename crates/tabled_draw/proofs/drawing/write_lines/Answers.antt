@@ -1,5 +1,6 @@
 use Rattle.tabled_draw.proofs.Common.{AreUnmerged, Draws, IsOwnerRow, ap, arith, border_line, bytes_in, drawn_border, length, map_grid, plan_on, rectangles, refl, subst, sym, top, with_newlines, ◌+◌, ◌∙◌, ◌≡◌}
-use Rattle.tabled_draw.proofs.Owned.{count-none, fits-well, owner-below, owner-top, row-outside}
+use Rattle.tabled_draw.proofs.Owned.{count-none, owner-below, owner-top, row-outside}
+use Rattle.tabled_grid.proofs.Owners.{fits-well}
 use Rattle.tabled_draw.proofs.Rows.{all-rows, border-text, end-inside, left-outside, more-rows, rest-of}
 use Rattle.tabled_held.proofs.Pens.{draws-as, draws-failed, draws-none, draws-then}
 use Rattle.tabled_draw.proofs.Unmerged.{none-left, unmerged-rows}

@@ -1,6 +1,6 @@
 use Rattle.tabled_draw.proofs.Common.{AreLeft, AreUnmerged, IsOwnerRow, None, Rows, [], add-zero, add_assoc, ap, ap₂, arith, begun, bytes_in, cond, get_or, heights, is_drawn, left_of, length, line_height, map_grid, place, plan_on, rectangles, refl, size_if, subst, sym, top, true, ◌+◌, ◌-◌, ◌<◌, ◌∙◌, ◌≡◌, ◌≤◌}
 use Rattle.tabled_draw.proofs.Sizes.{start-next}
-use Rattle.tabled_draw.proofs.Owned.{fits-well}
+use Rattle.tabled_grid.proofs.Owners.{fits-well}
 use Rattle.tabled_draw.proofs.Rows.{all-below, border-text, end-inside, first-below, in-row, left-in_row, left-next_row, more-below}
 use Rattle.tabled_held.proofs.Pens.{draws-as, draws-then}
 use Rattle.tabled_draw.specs.Lines.{drawn_line}
