@@ -24,11 +24,11 @@ find_kept test p es = ap (find position_cmp p) (pairs-filter test es) ∙ find-w
 
 -- texts have as many lines as their cells
 pub same_lines : {A : Type 0} (text_of : A → List ℕ) (axis x : Axis) (g : Grid A) (many line : ℕ) → x ≡ across axis → many ≡ count_along x g → line < count_along (across axis) (map_grid text_of g) → line < many
-same_lines text_of axis x g many line is count within = subst (λ (n : ℕ). line < n) (by axis ∙ ap (λ (y : Axis). count_along y g) (sym is) ∙ sym count) within
+same_lines text_of axis x g many line is count within = subst (λ (n : ℕ). line < n) (same_count axis ∙ ap (λ (y : Axis). count_along y g) (sym is) ∙ sym count) within
   where
-    by : (a : Axis) → count_along (across a) (map_grid text_of g) ≡ count_along (across a) g
-    by Rows = refl
-    by Columns = refl
+    same_count : (a : Axis) → count_along (across a) (map_grid text_of g) ≡ count_along (across a) g
+    same_count Rows = refl
+    same_count Columns = refl
 
 module _ (axis : Axis) (g : Grid (List ℕ)) where
   -- the runs in some lines, as they are found
@@ -58,14 +58,14 @@ module _ (axis : Axis) (g : Grid (List ℕ)) where
     in_middle p = get-with_sizes here m p (sorted-filter (λ (e : Rectangle). test e.first) es found.sorted) ∙ ap (λ (o : Option Size). set_or o (get m p)) (find_kept test p es)
 
     merged_here : MergesRuns axis e g m middle
-    merged_here = record { each = λ p. by p (cases_Bool (test p)) (find_at p es) refl }
+    merged_here = record { each = λ p. merged_at p (cases_Bool (test p)) (find_at p es) refl }
       where
-        by : (p : Position) → (test p ≡ true) ⊎ (test p ≡ false) → (o : Option Size) → find_at p es ≡ o → ((many : ℕ) × IsRun axis e g m p many × (get middle p ≡ Some (size_of_run axis many))) ⊎ (((many : ℕ) → IsRun axis e g m p many → ⊥) × (get middle p ≡ get m p))
-        by p (inl t) None is = inr (λ many run. none-some (size_of_run axis many) (sym is ∙ found.all p many (ap (λ b. b || others (line_at axis p)) t) (run_all axis g m e p many t run)), in_middle p ∙ ap₂ (λ (b : Bool) (o : Option Size). set_or (cond b o None) (get m p)) t is)
-        by p (inl t) (Some s) is =
+        merged_at : (p : Position) → (test p ≡ true) ⊎ (test p ≡ false) → (o : Option Size) → find_at p es ≡ o → ((many : ℕ) × IsRun axis e g m p many × (get middle p ≡ Some (size_of_run axis many))) ⊎ (((many : ℕ) → IsRun axis e g m p many → ⊥) × (get middle p ≡ get m p))
+        merged_at p (inl t) None is = inr (λ many run. none-some (size_of_run axis many) (sym is ∙ found.all p many (ap (λ b. b || others (line_at axis p)) t) (run_all axis g m e p many t run)), in_middle p ∙ ap₂ (λ (b : Bool) (o : Option Size). set_or (cond b o None) (get m p)) t is)
+        merged_at p (inl t) (Some s) is =
             let run = (found.each p s is).1 in
             inl (run.0, run_on axis g m e p run.0 t run.1, in_middle p ∙ ap₂ (λ (b : Bool) (o : Option Size). set_or (cond b o None) (get m p)) t is ∙ ap (λ (x : Size). set_or (Some x) (get m p)) run.2 ∙ set_run axis run.0 run.1.some (get m p))
-        by p (inr f) o is = inr (λ many run. false≢true (sym f ∙ run_named axis e g m p many run), in_middle p ∙ ap (λ (b : Bool). set_or (cond b (find_at p es) None) (get m p)) f)
+        merged_at p (inr f) o is = inr (λ many run. false≢true (sym f ∙ run_named axis e g m p many run), in_middle p ∙ ap (λ (b : Bool). set_or (cond b (find_at p es) None) (get m p)) f)
 
     rest_found : AreFound others middle rest
     rest_found = record {
@@ -115,11 +115,11 @@ module _ (axis : Axis) (g : Grid (List ℕ)) where
   }
     where
       inside : (p : Position) (many : ℕ) → IsRun axis Global g m p many → line_at axis p < count_along (across axis) g
-      inside p many run = let at = (begins_named axis Global g m p many run).inside in either axis at.row at.col
+      inside p many run = let at = (begins_named axis Global g m p many run).inside in line_inside axis at.row at.col
         where
-          either : (x : Axis) → p.row < g.rows → p.col < g.columns → line_at x p < count_along (across x) g
-          either Rows row col = col
-          either Columns row col = row
+          line_inside : (x : Axis) → p.row < g.rows → p.col < g.columns → line_at x p < count_along (across x) g
+          line_inside Rows row col = col
+          line_inside Columns row col = row
 
   -- all is merged at once
   pub listed_merged : (is_in : ℕ → Bool) (items : List Entity) (m : SpanMap) (es : List Rectangle) → ((line : ℕ) → line < count_along (across axis) g → is_in line ≡ is_named_by axis items line) → RunsIn axis is_in g m es → MergesEach axis items g m (with_sizes m es)
@@ -133,11 +133,11 @@ module _ (axis : Axis) (g : Grid (List ℕ)) where
   pub no_neighbours : (m : SpanMap) (size : Size) → size.height ≡ g.rows → size.width ≡ g.columns → (2 ≤ lines_in axis size → 1 ≤ lines_in (across axis) size → ⊥) → (p : Position) (many : ℕ) → IsRun axis Global g m p many → ⊥
   no_neighbours m size high wide never p many run =
       let j = subst (Joins axis Global g m) (further_none axis p) (run.joins 0 (omega (arith, run.some))) in
-      either axis j.here.inside j.next.inside never
+      no_room axis j.here.inside j.next.inside never
     where
-      either : (x : Axis) → IsInside g p → IsInside g (further x 1 p) → (2 ≤ lines_in x size → 1 ≤ lines_in (across x) size → ⊥) → ⊥
-      either Rows here next never = never (omega (arith, next.row, high)) (omega (arith, here.col, wide))
-      either Columns here next never = never (omega (arith, next.col, wide)) (omega (arith, here.row, high))
+      no_room : (x : Axis) → IsInside g p → IsInside g (further x 1 p) → (2 ≤ lines_in x size → 1 ≤ lines_in (across x) size → ⊥) → ⊥
+      no_room Rows here next never = never (omega (arith, next.row, high)) (omega (arith, here.col, wide))
+      no_room Columns here next never = never (omega (arith, next.col, wide)) (omega (arith, here.row, high))
 
   -- no runs in no lines
   pub none_in : (m : SpanMap) → RunsIn axis (λ _. false) g m []

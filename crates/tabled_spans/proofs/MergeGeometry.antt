@@ -35,15 +35,15 @@ module _ (axis : Axis) (entity : Entity) (g : Grid (List ℕ)) (m : SpanMap) whe
       first.begins (further axis (l - k - 1) b) (step ∙ sym at) (second.joins (l - k - 1) (omega arith))
 
   same_first : (a b p : Position) (many n : ℕ) → IsRun axis entity g m a many → IsRun axis entity g m b n → In (rectangle a (size_of_run axis many)) p → In (rectangle b (size_of_run axis n)) p → a ≡ b
-  same_first a b p many n first second ha hb = by (cell_of axis a p many ha) (cell_of axis b p n hb)
+  same_first a b p many n first second ha hb = same_anchor (cell_of axis a p many ha) (cell_of axis b p n hb)
     where
-      by : (k : ℕ) × (k < many) × (p ≡ further axis k a) → (l : ℕ) × (l < n) × (p ≡ further axis l b) → a ≡ b
-      by (k, h, is) (l, i, js) = either (cases_lt k l) (cases_lt l k)
+      same_anchor : (k : ℕ) × (k < many) × (p ≡ further axis k a) → (l : ℕ) × (l < n) × (p ≡ further axis l b) → a ≡ b
+      same_anchor (k, h, is) (l, i, js) = same_offset (cases_lt k l) (cases_lt l k)
         where
-          either : (k < l) ⊎ (l ≤ k) → (l < k) ⊎ (k ≤ l) → a ≡ b
-          either (inl x) c = absurd (ahead a b many n k l first second i x (sym is ∙ js))
-          either (inr x) (inl y) = absurd (ahead b a n many l k second first h y (sym js ∙ is))
-          either (inr x) (inr y) = further_back axis a b k l (sym is ∙ js) y ∙ ap (λ d. further axis d b) (omega arith) ∙ further_none axis b
+          same_offset : (k < l) ⊎ (l ≤ k) → (l < k) ⊎ (k ≤ l) → a ≡ b
+          same_offset (inl x) c = absurd (ahead a b many n k l first second i x (sym is ∙ js))
+          same_offset (inr x) (inl y) = absurd (ahead b a n many l k second first h y (sym js ∙ is))
+          same_offset (inr x) (inr y) = further_back axis a b k l (sym is ∙ js) y ∙ ap (λ d. further axis d b) (omega arith) ∙ further_none axis b
 
   -- an old rectangle holds no cell of a run
   no_old : (rows columns : ℕ) (a b p : Position) (many : ℕ) (t : Size) → Fits m rows columns → IsRun axis entity g m a many → get m b ≡ Some t → In (rectangle a (size_of_run axis many)) p → In (rectangle b t) p → ⊥

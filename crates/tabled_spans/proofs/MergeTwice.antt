@@ -52,14 +52,14 @@ module _ (axis : Axis) (entity : Entity) (g : Grid (List ℕ)) (m : SpanMap) whe
 
     -- what is hidden stays hidden
     pub hidden_still : (p : Position) → is_hidden m p ≡ true → is_hidden n p ≡ true
-    hidden_still p h = let it = hidden_by m p h in by it.anchor it.size it.has it.holds it.other (merged.each it.anchor)
+    hidden_still p h = let it = hidden_by m p h in hidden_by_anchor it.anchor it.size it.has it.holds it.other (merged.each it.anchor)
       where
-        by : (a : Position) (s : Size) → get m a ≡ Some s → In (rectangle a s) p → a ≢ p → ((k : ℕ) × IsRun axis entity g m a k × (get n a ≡ Some (size_of_run axis k))) ⊎ (((k : ℕ) → IsRun axis entity g m a k → ⊥) × (get n a ≡ get m a)) → is_hidden n p ≡ true
-        by a s has holds other (inl (k, run, is)) =
+        hidden_by_anchor : (a : Position) (s : Size) → get m a ≡ Some s → In (rectangle a s) p → a ≢ p → ((k : ℕ) × IsRun axis entity g m a k × (get n a ≡ Some (size_of_run axis k))) ⊎ (((k : ℕ) → IsRun axis entity g m a k → ⊥) × (get n a ≡ get m a)) → is_hidden n p ≡ true
+        hidden_by_anchor a s has holds other (inl (k, run, is)) =
             let one : s ≡ sized 1 1 = sym (size_at-some m a s has) ∙ free_size m a (first_free a k run) in
             let h1 = subst (λ (t : Size). In (rectangle a t) p) one holds in
             absurd (other (ap₂ place (omega (arith, h1.top, h1.bottom)) (omega (arith, h1.left, h1.right))))
-        by a s has holds other (inr (never, is)) = hidden-from n a p s (is ∙ has) holds other
+        hidden_by_anchor a s has holds other (inr (never, is)) = hidden-from n a p s (is ∙ has) holds other
 
     was_visible : (p : Position) → is_visible n p ≡ true → is_visible m p ≡ true
     was_visible p shown = not_from_false (is_hidden m p) (false_from_ne_true (is_hidden m p) (λ hidden. false≢true (sym (not_from_true _ (hidden_still p hidden)) ∙ shown)))
@@ -80,14 +80,14 @@ module _ (axis : Axis) (entity : Entity) (g : Grid (List ℕ)) (m : SpanMap) whe
 
     -- no cell of a run is free any more
     none_free : (p : Position) → is_free n p ≡ true → (a : Position) (many k : ℕ) → IsRun axis entity g m a many → k < many → further axis k a ≡ p → ⊥
-    none_free p free a many k run h is = by (anchor_size a many run) (cases_lt 0 k)
+    none_free p free a many k run h is = none_behind (anchor_size a many run) (cases_lt 0 k)
       where
-        by : (b : ℕ) × IsRun axis entity g m a b × (get n a ≡ Some (size_of_run axis b)) → (0 < k) ⊎ (k ≤ 0) → ⊥
-        by (b, other, has) (inl l) =
+        none_behind : (b : ℕ) × IsRun axis entity g m a b × (get n a ≡ Some (size_of_run axis b)) → (0 < k) ⊎ (k ≤ 0) → ⊥
+        none_behind (b, other, has) (inl l) =
             let long : k < b = omega (arith, h, same_run axis entity g m a many b run other) in
             let hidden : is_hidden n p ≡ true = hidden-from n a p (size_of_run axis b) has (subst (In (rectangle a (size_of_run axis b))) is (covers axis a b k other.some long)) (λ e. apart_from axis a k l (e ∙ sym is)) in
             false≢true (sym (not_from_true _ hidden) ∙ (and_parts _ _ free).0)
-        by (b, other, has) (inr l) =
+        none_behind (b, other, has) (inr l) =
             let here : a ≡ p = sym (further_none axis a) ∙ ap (λ i. further axis i a) (omega arith) ∙ is in
             not_one axis b other.some (sym (size_at-some n a (size_of_run axis b) has) ∙ ap (size_at n) here ∙ free_size n p free)
 

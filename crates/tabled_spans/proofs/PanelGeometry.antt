@@ -12,15 +12,15 @@ one_cell m p absent = same_map (with_size m p (sized 1 1)) m (λ q. elim (cases_
 
 -- a size over cells that no rectangle has, which may be that of one cell
 pub fits_over : (m : SpanMap) (p : Position) (size : Size) (rows columns : ℕ) → get m p ≡ None → 1 ≤ size.height → 1 ≤ size.width → p.row + size.height ≤ rows → p.col + size.width ≤ columns → ((a q : Position) (s : Size) → get m a ≡ Some s → In (rectangle a s) q → In (rectangle p size) q → a ≡ p) → Fits m rows columns → Fits (with_size m p size) rows columns
-fits_over m p size rows columns absent high wide down across free fits = either (cases_lt 1 size.height) (cases_lt 1 size.width)
+fits_over m p size rows columns absent high wide down across free fits = fits_sized (cases_lt 1 size.height) (cases_lt 1 size.width)
   where
     more : (1 < size.height) ⊎ (1 < size.width) → Fits (with_size m p size) rows columns
     more h = fits_with m p size rows columns (record { height = high; width = wide; merges = h }) down across free fits
 
-    either : (1 < size.height) ⊎ (size.height ≤ 1) → (1 < size.width) ⊎ (size.width ≤ 1) → Fits (with_size m p size) rows columns
-    either (inl h) c = more (inl h)
-    either (inr l) (inl h) = more (inr h)
-    either (inr l) (inr k) =
+    fits_sized : (1 < size.height) ⊎ (size.height ≤ 1) → (1 < size.width) ⊎ (size.width ≤ 1) → Fits (with_size m p size) rows columns
+    fits_sized (inl h) c = more (inl h)
+    fits_sized (inr l) (inl h) = more (inr h)
+    fits_sized (inr l) (inr k) =
         let one : size ≡ sized 1 1 = ap₂ sized (omega arith) (omega arith) in
         subst (λ (n : SpanMap). Fits n rows columns) (sym (ap (with_size m p) one ∙ one_cell m p absent)) fits
 

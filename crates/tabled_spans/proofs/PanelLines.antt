@@ -52,13 +52,13 @@ module _ {A : Type 0} (is_blank : A → Type 0) (text_of : A → List ℕ) (empt
   no_texts (x ∷ cells) (suc n) blank long = ap₂ (λ (t : List ℕ) ts. t ∷ ts) (empty x blank.0) (no_texts cells n blank.1 (omega arith))
 
   module _ (line : ℕ) (text : List ℕ) (old mid new : Grid A) (even : IsEven old) where
-    by_row : line ≤ old.rows → 1 ≤ old.columns → (row : List A) → AreBlanks is_blank old.columns row → mid ≡ with_row old line row → WritesText text_of mid new (place line 0) text → PutsIn is_blank text_of Rows line text old new
-    by_row within some [] blanks is writes = absurd (omega (arith, blanks.many))
-    by_row within some (x ∷ row) blanks is writes = grind (arith, common_steps, no_texts, got_inserted, set_inserted)
+    puts_row : line ≤ old.rows → 1 ≤ old.columns → (row : List A) → AreBlanks is_blank old.columns row → mid ≡ with_row old line row → WritesText text_of mid new (place line 0) text → PutsIn is_blank text_of Rows line text old new
+    puts_row within some [] blanks is writes = absurd (omega (arith, blanks.many))
+    puts_row within some (x ∷ row) blanks is writes = grind (arith, common_steps, no_texts, got_inserted, set_inserted)
 
-    by_column : line ≤ old.columns → 1 ≤ old.rows → (column : List A) → AreBlanks is_blank old.rows column → mid ≡ with_column old line column → WritesText text_of mid new (place 0 line) text → PutsIn is_blank text_of Columns line text old new
-    by_column within some [] blanks is writes = absurd (omega (arith, blanks.many))
-    by_column within some (x ∷ column) blanks is writes = record {
+    puts_column : line ≤ old.columns → 1 ≤ old.rows → (column : List A) → AreBlanks is_blank old.rows column → mid ≡ with_column old line column → WritesText text_of mid new (place 0 line) text → PutsIn is_blank text_of Columns line text old new
+    puts_column within some [] blanks is writes = absurd (omega (arith, blanks.many))
+    puts_column within some (x ∷ column) blanks is writes = record {
       cells = writes.cell ∷ column;
       texts = ap₂ (λ (t : List ℕ) ts. t ∷ ts) writes.has (no_texts column (old.rows - 1) blanks.blank.1 (omega (arith, blanks.many)));
       blanks = blanks.blank.1;
@@ -70,8 +70,8 @@ module _ {A : Type 0} (is_blank : A → Type 0) (text_of : A → List ℕ) (empt
         put (r ∷ rows) wide h = ap (λ (s : List A). s ∷ map (λ (p : List A × A). insert p.0 line p.1) (zip rows column)) (set_inserted r line x writes.cell (omega (arith, wide.0)))
 
   pub put_in : (axis : Axis) (line : ℕ) (text : List ℕ) (old mid new : Grid A) → IsEven old → line ≤ count_along axis old → 1 ≤ count_along (across axis) old → InsertsLine is_blank axis old mid line → WritesText text_of mid new (place_in axis line 0) text → PutsIn is_blank text_of axis line text old new
-  put_in Rows line text old mid new even within some inserts writes = by_row line text old mid new even within some inserts.row inserts.blanks inserts.is writes
-  put_in Columns line text old mid new even within some inserts writes = by_column line text old mid new even within some inserts.column inserts.blanks inserts.is writes
+  put_in Rows line text old mid new even within some inserts writes = puts_row line text old mid new even within some inserts.row inserts.blanks inserts.is writes
+  put_in Columns line text old mid new even within some inserts writes = puts_column line text old mid new even within some inserts.column inserts.blanks inserts.is writes
 
   -- a panel is put in and merged
   pub panelled : (axis : Axis) (line : ℕ) (text : List ℕ) (old mid new : Grid A) (m n : SpanMap) → IsEven old → line ≤ count_along axis old → 1 ≤ count_along (across axis) old → is_crossed axis line m ≡ false → InsertsLine is_blank axis old mid line → WritesText text_of mid new (place_in axis line 0) text → n ≡ with_span (across axis) (shifted axis line m) (place_in axis line 0) (count_along (across axis) old) → Panels is_blank text_of axis line text old m new n

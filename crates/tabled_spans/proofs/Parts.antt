@@ -93,13 +93,13 @@ module _ (width : ℕ) (wide : 1 ≤ width) (part : List ℕ) (used c : ℕ) (sh
       })
 
   behind : 1 ≤ character_columns c → used < width → Put width part c (placed width used c)
-  behind some less = by (leb_tells (used + character_columns c) width)
+  behind some less = put-behind (leb_tells (used + character_columns c) width)
     where
       fits : columns_in part < width
       fits = omega (arith, counted.all less, less)
 
-      by : ((nat_le (used + character_columns c) width ≡ true) × (used + character_columns c ≤ width)) ⊎ ((nat_le (used + character_columns c) width ≡ false) × (width < used + character_columns c)) → Put width part c (placed width used c)
-      by (inl (t, room)) =
+      put-behind : ((nat_le (used + character_columns c) width ≡ true) × (used + character_columns c ≤ width)) ⊎ ((nat_le (used + character_columns c) width ≡ false) × (width < used + character_columns c)) → Put width part c (placed width used c)
+      put-behind (inl (t, room)) =
           let is : placed width used c ≡ record { begins = false; character = c; used = used + character_columns c } = rw (within, ne_eqb (character_columns c) 0 (λ e. omega (arith, e, some)), lt-leb _ _ less, t) refl in
           subst (Put width part c) (sym is) (record {
             begins = refl;
@@ -107,7 +107,7 @@ module _ (width : ℕ) (wide : 1 ≤ width) (part : List ℕ) (used c : ℕ) (sh
             counted = record { most = omega (arith, sum, counted.most); all = λ _. omega (arith, sum, counted.all less) };
             is_shown = shown_whole width (part ++ (c ∷ [])) (omega (arith, sum, counted.all less, room)) ∙ ap (λ xs. xs ++ (c ∷ [])) (sym (shown_whole width part (omega (arith, fits))));
           })
-      by (inr (f, over)) =
+      put-behind (inr (f, over)) =
           let is : placed width used c ≡ record { begins = false; character = 0xFFFD; used = width } = rw (within, ne_eqb (character_columns c) 0 (λ e. omega (arith, e, some)), lt-leb _ _ less, f) refl in
           subst (Put width part c) (sym is) (record {
             begins = refl;

@@ -18,11 +18,11 @@ next_row i j left p (inr h) = inl (omega (arith, h.0))
 
 -- a run has more than one cell
 run_is_span : (axis : Axis) (many : ℕ) → 2 ≤ many → is_span (size_of_run axis many) ≡ true
-run_is_span axis many two = span-from (size_of_run axis many) (by axis)
+run_is_span axis many two = span-from (size_of_run axis many) (is_span_of_run axis)
   where
-    by : (x : Axis) → IsSpan (size_of_run x many)
-    by Rows = record { height = omega arith; width = omega arith; merges = inl two }
-    by Columns = record { height = omega arith; width = omega arith; merges = inr two }
+    is_span_of_run : (x : Axis) → IsSpan (size_of_run x many)
+    is_span_of_run Rows = record { height = omega arith; width = omega arith; merges = inl two }
+    is_span_of_run Columns = record { height = omega arith; width = omega arith; merges = inr two }
 
 pub set_run : (axis : Axis) (many : ℕ) → 2 ≤ many → (old : Option Size) → set_or (Some (size_of_run axis many)) old ≡ Some (size_of_run axis many)
 set_run axis many two old = ap (λ (b : Bool). if b then Some (size_of_run axis many) else None) (run_is_span axis many two)
@@ -41,10 +41,10 @@ module _ (axis : Axis) (entity : Entity) (g : Grid (List ℕ)) (m : SpanMap) whe
   sizes_full es each = all_then {Q = HasArea} (λ anchor it. of_run axis anchor it.0 it.1.some it.2) es each
 
   pub runs_merged : (es : List Rectangle) → RunsOf axis entity g m es → MergesRuns axis entity g m (with_sizes m es)
-  runs_merged es listed = record { each = λ p. by p (find_at p es) refl }
+  runs_merged es listed = record { each = λ p. merged_at p (find_at p es) refl }
     where
-      by : (p : Position) (o : Option Size) → find_at p es ≡ o → ((many : ℕ) × IsRun axis entity g m p many × (get (with_sizes m es) p ≡ Some (size_of_run axis many))) ⊎ (((many : ℕ) → IsRun axis entity g m p many → ⊥) × (get (with_sizes m es) p ≡ get m p))
-      by p None is = inr (λ many run. none-some (size_of_run axis many) (sym is ∙ listed.all p many run), get-with_sizes es m p listed.sorted ∙ ap (λ (o : Option Size). set_or o (get m p)) is)
-      by p (Some s) is =
+      merged_at : (p : Position) (o : Option Size) → find_at p es ≡ o → ((many : ℕ) × IsRun axis entity g m p many × (get (with_sizes m es) p ≡ Some (size_of_run axis many))) ⊎ (((many : ℕ) → IsRun axis entity g m p many → ⊥) × (get (with_sizes m es) p ≡ get m p))
+      merged_at p None is = inr (λ many run. none-some (size_of_run axis many) (sym is ∙ listed.all p many run), get-with_sizes es m p listed.sorted ∙ ap (λ (o : Option Size). set_or o (get m p)) is)
+      merged_at p (Some s) is =
           let run = found_in (IsOfRun axis entity g m) es listed.each p s is in
           inl (run.0, run.1, get-with_sizes es m p listed.sorted ∙ ap (λ (o : Option Size). set_or o (get m p)) is ∙ ap (λ (x : Size). set_or (Some x) (get m p)) run.2 ∙ set_run axis run.0 run.1.some (get m p))

@@ -73,7 +73,7 @@ flat_dropped_along Rows m rows columns flat = (fits_dropped m rows columns (midw
 
 -- spans of any size along lines keep merged cells of one line so, inside and apart
 pub flat_spanned : (axis : Axis) (size : ℤ) (e : Entity) (m : SpanMap) (rows columns : ℕ) → Fits m rows columns → IsFlat axis m → Fits (spanned axis size e rows columns m) rows columns × IsFlat axis (spanned axis size e rows columns m)
-flat_spanned axis size e m rows columns fits flat = by_sign size
+flat_spanned axis size e m rows columns fits flat = flat_of_any_size size
   where
     start : AreFlat axis m rows columns
     start = record { flat = flat; within = (midway m rows columns fits).within }
@@ -81,9 +81,9 @@ flat_spanned axis size e m rows columns fits flat = by_sign size
     all : (back : Option ℕ) → Fits (pulled axis back e rows columns m) rows columns × IsFlat axis (pulled axis back e rows columns m)
     all back = flat_dropped_along axis _ rows columns (fold-keeps (λ k. AreFlat axis k rows columns) (pulled_at axis back (count_of axis rows columns)) rows columns (flat_pulled axis back rows columns) (inside e rows columns) m (inside-within e rows columns) start)
 
-    by_sign : (s : ℤ) → Fits (spanned axis s e rows columns m) rows columns × IsFlat axis (spanned axis s e rows columns m)
-    by_sign (pos (suc s)) = flat_dropped_along axis _ rows columns (fold-keeps (λ k. AreFlat axis k rows columns) (grown_at axis (suc s) (count_of axis rows columns)) rows columns (flat_grown axis (suc s) rows columns (omega arith)) (inside e rows columns) m (inside-within e rows columns) start)
-    by_sign s = all (back_of s)
+    flat_of_any_size : (s : ℤ) → Fits (spanned axis s e rows columns m) rows columns × IsFlat axis (spanned axis s e rows columns m)
+    flat_of_any_size (pos (suc s)) = flat_dropped_along axis _ rows columns (fold-keeps (λ k. AreFlat axis k rows columns) (grown_at axis (suc s) (count_of axis rows columns)) rows columns (flat_grown axis (suc s) rows columns (omega arith)) (inside e rows columns) m (inside-within e rows columns) start)
+    flat_of_any_size s = all (back_of s)
 
 module _ {A : Type 0} (text_of : A → List ℕ) (axis : Axis) (size : ℤ) (e : Entity) (P : SpanMap → ℕ → ℕ → Type 0) where
   -- what a span keeps of the merged cells of a table, the option keeps, also where it is refused

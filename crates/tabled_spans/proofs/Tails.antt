@@ -79,21 +79,21 @@ module _ (axis : Axis) (entity : Entity) (g : Grid (List ℕ)) (m : SpanMap) whe
       pub tails_set : (last : Position) (many : ℕ) → further axis 1 last ≡ p → In block last → IsTail axis entity g m last many → AreTails axis entity g m block p.row p.col (slice_set lengths (last.col - block.first.col) many)
       tails_set last many is here tail = record {
         size = length-set lengths (last.col - block.first.col) many ∙ so_far.size;
-        each = λ r within before alone. by r within before alone (cases_place r last);
+        each = λ r within before alone. tail_set r within before alone (cases_place r last);
       }
         where
           same_column : (x : Axis) (r : Position) → further x 1 last ≡ p → In block r → IsBefore r p → r.col - block.first.col ≡ last.col - block.first.col → (In block (further x 1 r) → IsBefore (further x 1 r) p → ⊥) → further x 1 r ≡ p
-          same_column Rows r e within (inl above) same alone = either (cases_lt (r.row + 1) p.row)
+          same_column Rows r e within (inl above) same alone = next_row (cases_lt (r.row + 1) p.row)
             where
-              either : (r.row + 1 < p.row) ⊎ (p.row ≤ r.row + 1) → further Rows 1 r ≡ p
-              either (inl l) = absurd (alone (record { top = omega (arith, within.top); bottom = omega (arith, l, inside.bottom); left = within.left; right = within.right }) (inl l))
-              either (inr l) = ap₂ place (omega (arith, above)) (omega (arith, same, within.left, here.left, ap (λ (y : Position). y.col) e))
+              next_row : (r.row + 1 < p.row) ⊎ (p.row ≤ r.row + 1) → further Rows 1 r ≡ p
+              next_row (inl l) = absurd (alone (record { top = omega (arith, within.top); bottom = omega (arith, l, inside.bottom); left = within.left; right = within.right }) (inl l))
+              next_row (inr l) = ap₂ place (omega (arith, above)) (omega (arith, same, within.left, here.left, ap (λ (y : Position). y.col) e))
           same_column Rows r e within (inr h) same alone = absurd (omega (arith, h.1, same, within.left, here.left, ap (λ (y : Position). y.col) e))
           same_column Columns r e within (inl above) same alone = absurd (alone (record { top = within.top; bottom = within.bottom; left = omega (arith, within.left); right = omega (arith, same, within.left, here.left, ap (λ (y : Position). y.col) e, inside.right) }) (inl above))
           same_column Columns r e within (inr h) same alone = ap₂ place h.0 (omega (arith, same, within.left, here.left, ap (λ (y : Position). y.col) e))
 
-          by : (r : Position) → In block r → IsBefore r p → (In block (further axis 1 r) → IsBefore (further axis 1 r) p → ⊥) → (r ≡ last) ⊎ (r ≢ last) → IsTail axis entity g m r (slice_index (slice_set lengths (last.col - block.first.col) many) (r.col - block.first.col))
-          by r within before alone (inl e) = subst (λ (x : Position). IsTail axis entity g m x (slice_index (slice_set lengths (last.col - block.first.col) many) (x.col - block.first.col))) (sym e) (subst (IsTail axis entity g m last) (sym (get_or-set_same lengths (last.col - block.first.col) many 0 (omega (arith, here.left, here.right, so_far.size)))) tail)
-          by r within before alone (inr other) =
+          tail_set : (r : Position) → In block r → IsBefore r p → (In block (further axis 1 r) → IsBefore (further axis 1 r) p → ⊥) → (r ≡ last) ⊎ (r ≢ last) → IsTail axis entity g m r (slice_index (slice_set lengths (last.col - block.first.col) many) (r.col - block.first.col))
+          tail_set r within before alone (inl e) = subst (λ (x : Position). IsTail axis entity g m x (slice_index (slice_set lengths (last.col - block.first.col) many) (x.col - block.first.col))) (sym e) (subst (IsTail axis entity g m last) (sym (get_or-set_same lengths (last.col - block.first.col) many 0 (omega (arith, here.left, here.right, so_far.size)))) tail)
+          tail_set r within before alone (inr other) =
               let apart : further axis 1 r ≢ p = λ e. other (same_last axis r last (e ∙ sym is)) in
               subst (IsTail axis entity g m r) (sym (get_or-set_other lengths (last.col - block.first.col) (r.col - block.first.col) many 0 (λ same. apart (same_column axis r is within before same alone)))) (tail_still r within before alone apart)

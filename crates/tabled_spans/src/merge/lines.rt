@@ -1,6 +1,6 @@
 //! Which lines entities name whole.
 
-ghost use Rattle.std.specs.Prelude.{◌≡◌, ◌<◌, ◌≤◌, ◌+◌, ◌==◌, ◌||◌, ℕ, false, true, get_or, length, IfOk, List, Ok, []};
+ghost use Rattle.std.specs.Prelude.{◌≡◌, ◌<◌, ◌≤◌, ◌+◌, ◌&&◌, ◌||◌, ℕ, false, true, get_or, length, nat_le, nat_lt, IfOk, List, Ok, []};
 ghost use Rattle.std.specs.Iterator.{AlwaysYields, IsFinite};
 ghost use Rattle.tabled_grid.specs.declared.config.entity.Entity.{Entity};
 ghost use Rattle.tabled_spans.specs.Lines.{AreMany, AreNamedBy, is_among, names_line};
@@ -60,7 +60,8 @@ impl Lines {
         ensures many { IfOk result (λ lines. AreMany many lines) }
         ensures named { IfOk result (λ lines. (line : ℕ) → line < many → is_among axis lines line ≡ (is_among axis self line || names_line axis entity line)) }
     {
-        if !names_lines(axis, many, entity) {
+        let (_, count) = lines_named(axis, many, entity);
+        if count == 0 {
             return Ok(self);
         }
         let mut marks = match self {
@@ -83,15 +84,16 @@ fn marks_of(alloc: Global, axis: Axis, many: usize, entity: Entity) -> Result<Ve
     Ok(marks)
 }
 
-/// Says whether an entity names one of the first n lines whole.
-fn names_lines(axis: Axis, many: usize, entity: Entity) -> bool
-    ensures { result ≡ false → (line : ℕ) → line < many → names_line axis entity line ≡ false }
+/// The first of the first n lines that an entity names whole, and how many it names.
+fn lines_named(axis: Axis, many: usize, entity: Entity) -> (usize, usize)
+    ensures within { result.0 + result.1 ≤ many }
+    ensures named { (line : ℕ) → line < many → names_line axis entity line ≡ (nat_le result.0 line && nat_lt line (result.0 + result.1)) }
 {
     match (axis, entity) {
-        (_, Entity::Global) => many > 0,
-        (Axis::Rows, Entity::Column(line)) => line < many,
-        (Axis::Columns, Entity::Row(line)) => line < many,
-        _ => false,
+        (_, Entity::Global) => (0, many),
+        (Axis::Rows, Entity::Column(line)) if line < many => (line, 1),
+        (Axis::Columns, Entity::Row(line)) if line < many => (line, 1),
+        _ => (0, 0),
     }
 }
 
@@ -100,22 +102,8 @@ fn mark(marks: &mut [bool], axis: Axis, entity: Entity)
     ensures length { length marks.new ≡ length marks.old }
     ensures marked { (line : ℕ) → line < length marks.old → get_or marks.new line false ≡ (get_or marks.old line false || names_line axis entity line) }
 {
-    match (axis, entity) {
-        (_, Entity::Global) => marks.fill(true),
-        (Axis::Rows, Entity::Column(line)) => mark_one(marks, line),
-        (Axis::Columns, Entity::Row(line)) => mark_one(marks, line),
-        _ => {}
-    }
-}
-
-/// Marks one line, if there is a mark for it.
-fn mark_one(marks: &mut [bool], line: usize)
-    ensures length { length marks.new ≡ length marks.old }
-    ensures marked { (k : ℕ) → k < length marks.old → get_or marks.new k false ≡ (get_or marks.old k false || (k == line)) }
-{
-    if line < marks.len() {
-        marks[line] = true;
-    }
+    let (first, count) = lines_named(axis, marks.len(), entity);
+    marks[first..first + count].fill(true);
 }
 
 /// The first line with a mark, and how many lines there are from it to the last one with a mark.
