@@ -3,8 +3,9 @@
 ghost use Rattle.std.specs.Prelude.{◌≡◌, true};
 ghost use Rattle.tabled_grid.specs.Entity.{names};
 ghost use Rattle.tabled_grid.specs.declared.config.entity.Entity.{Entity};
+ghost use Rattle.tabled_options.specs.Does.{OptionKeeps};
 ghost use Rattle.tabled_options.specs.Hints.{combined};
-ghost use Rattle.tabled_options.specs.Kept.{CellCopiedAsPair, CopiedAsAll, CopiedAsPair, KeepsFittingOnEach, KeptBy, KeptByAll, KeptByPair, KeptOnEach, KeptOnEachByPair};
+ghost use Rattle.tabled_options.specs.Kept.{CellCopiedAsPair, CopiedAsAll, CopiedAsPair, KeepsFittingOnEach, KeptByAll, KeptByPair, KeptOnEachByPair};
 ghost use Rattle.tabled_options.specs.Shapes.{FitsInSameShape};
 
 use crate::cell_option::CellOption;
@@ -110,7 +111,9 @@ where
     P: Property<R::Cell, C>,
     O: Object<R> + Drop,
     M: CellOption<R, C> + Clone,
-    ensures each { KeptOnEach P.holds M.CellOption _option.now → KeptBy P.holds ⟦<ModifyList<O, M> as TableOption<R, C, D>>⟧ (_object.now, _option.now) }
+    ensures each { ((e : Entity) → OptionKeeps P.holds (M.does _option.now e) (M.leaves _option.now e)) → OptionKeeps P.holds
+        (⟦<ModifyList<O, M> as TableOption<R, C, D>>⟧.does (_object.now, _option.now))
+        (⟦<ModifyList<O, M> as TableOption<R, C, D>>⟧.leaves (_object.now, _option.now)) }
 {}
 
 /// An option on cells that leaves the numbers of rows and columns and the configuration, done or refused,
