@@ -1,11 +1,9 @@
 -- Texts that stand with no quotes are read back.
 use Rattle.std.proofs.lemmas.Bool.Decides.{nat_tests}
-use Rattle.std.proofs.lemmas.Bool.{cases_Bool}
 use Rattle.std.proofs.lemmas.Slice.Eq.{bytes_eq-Decides}
-use Rattle.std.specs.Bool.{Decides}
 use Rattle.std.specs.List.{AllByRecursion}
 use Rattle.std.specs.Str.{bytes_eq}
-use Rattle.tabled_json.proofs.Common.{◌≡◌, ◌==◌, ◌∷◌, ◌∙◌, ◌++◌, ◌||◌, ◌&&◌, [], ℕ, List, Bool, Some, true, false, refl, sym, ap, subst, arith, if◌then◌else◌, ◌⊎◌, inl, inr}
+use Rattle.tabled_json.proofs.Common.{◌≡◌, ◌==◌, ◌∷◌, ◌∙◌, ◌++◌, ◌||◌, ◌&&◌, [], ℕ, List, Bool, true, false, refl, sym, ap, arith, if◌then◌else◌, ◌⊎◌, inl, inr}
 use Rattle.tabled_json.proofs.Written.{string-written}
 use Rattle.tabled_json.specs.Grammar.{NumberAt, ScalarAt, WordAt, false_word, true_word}
 use Rattle.tabled_json.specs.Numbers.{are_decimals, are_digits, behind_digits, behind_numerals, behind_sign, is_digit, is_exponent, is_fraction, is_none, is_number, is_numeric, is_unsigned, numerals}

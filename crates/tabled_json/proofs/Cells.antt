@@ -1,11 +1,11 @@
 -- Cells, members and objects: each is one thing only.
-use Rattle.tabled_json.proofs.Common.{◌≡◌, ◌∷◌, ◌∙◌, [], ℕ, List, IsUtf8, refl, sym, ap, subst, arith, heads, tails, NoneAt}
-use Rattle.tabled_json.proofs.KeyParts.{key-unique, key-no-quote}
+use Rattle.tabled_json.proofs.Common.{◌≡◌, ◌∷◌, ◌∙◌, [], ℕ, List, IsUtf8, sym, ap, subst, arith, heads, tails, NoneAt}
+use Rattle.tabled_json.proofs.KeyParts.{key-unique}
 use Rattle.tabled_json.proofs.WholeValues.{value-unique, bracket-no-scalar}
 use Rattle.tabled_json.proofs.Scalars.{scalar-unique}
 use Rattle.tabled_json.proofs.Lists.{IsOne, elements-unique, elements-back}
 use Rattle.tabled_json.specs.Space.{NotBefore, behind_space}
-use Rattle.tabled_json.specs.Grammar.{CellAt, CellTextAt, KeyAt, MemberAt, ObjectAt, ScalarAt, ValueAt, ElementsAt, ListAt, before, opening}
+use Rattle.tabled_json.specs.Grammar.{CellAt, CellTextAt, KeyAt, MemberAt, ObjectAt, ScalarAt, ElementsAt, ListAt, before, opening}
 use Rattle.tabled_json.specs.WholeValues.{NoValueAt, OpensNothing}
 use Rattle.tabled_json.specs.declared.value.Kind.{Kind}
 

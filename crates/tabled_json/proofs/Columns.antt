@@ -2,7 +2,7 @@
 use Rattle.std.proofs.lemmas.Slice.Eq.{bytes_eq-Decides}
 use Rattle.std.specs.Prelude.{is_some}
 use Rattle.std.specs.Str.{bytes_eq}
-use Rattle.tabled_json.proofs.Common.{◌≡◌, ◌∷◌, ◌∙◌, ◌++◌, ◌+◌, ◌<◌, ◌||◌, [], ℕ, suc, Bool, cond, true, false, List, None, Option, Some, refl, sym, ap, arith, get_or, length, option_map, same_Some}
+use Rattle.tabled_json.proofs.Common.{◌≡◌, ◌∷◌, ◌∙◌, ◌++◌, ◌<◌, ◌||◌, [], ℕ, suc, Bool, cond, true, false, List, None, Option, Some, refl, sym, ap, arith, get_or, length, option_map, same_Some}
 use Rattle.tabled_json.specs.Tables.{find_key, is_among, with_key}
 
 pub same-bytes : (xs ys : List ℕ) → bytes_eq xs ys ≡ true → xs ≡ ys

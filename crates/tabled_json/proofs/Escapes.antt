@@ -1,6 +1,6 @@
 -- A text, written as a string: bytes of which those below w are written, and from there up to i is each one plain.
 use Rattle.std.proofs.lemmas.List.{get_or-drop, length-drop, take_all, take_more, take_rest}
-use Rattle.tabled_json.proofs.Common.{◌≡◌, ◌≤◌, ◌<◌, ◌+◌, ◌-◌, ◌++◌, ◌∷◌, ◌∙◌, [], ℕ, List, true, refl, sym, ap, arith, append-nil, append_assoc, drop, get_or, length, take}
+use Rattle.tabled_json.proofs.Common.{◌≡◌, ◌≤◌, ◌<◌, ◌+◌, ◌-◌, ◌++◌, ◌∷◌, ◌∙◌, [], ℕ, List, true, sym, ap, arith, append-nil, append_assoc, drop, get_or, length, take}
 use Rattle.tabled_json.proofs.Written.{escape-plain, escaped-more}
 use Rattle.tabled_json.specs.Strings.{is_plain}
 use Rattle.tabled_json.specs.Writing.{escape, escaped_text, string_of}

@@ -18,3 +18,4 @@ pub mod Columns
 pub mod Taken
 pub mod Tabled
 pub mod WrittenRows
+pub mod Meaning

@@ -1,9 +1,9 @@
 -- Reading a value of any depth: what was passed over, what is open, and what is left.
-use Rattle.tabled_json.proofs.Common.{◌≡◌, ◌∷◌, ◌∙◌, ◌⊎◌, inl, inr, [], ℕ, List, Bool, true, false, refl, sym, ap, subst, tails}
+use Rattle.tabled_json.proofs.Common.{◌≡◌, ◌∷◌, inl, inr, [], ℕ, List, Bool, true, false, refl, sym, subst}
 use Rattle.tabled_json.proofs.KeyParts.{item-unique}
-use Rattle.tabled_json.proofs.WholeValues.{value-unique, items-back, items-of, inside-back, more-items, last-same, closed-apart}
+use Rattle.tabled_json.proofs.WholeValues.{value-unique, items-back, items-of, inside-back, more-items, last-same}
 use Rattle.tabled_json.specs.Space.{behind_space}
-use Rattle.tabled_json.specs.Grammar.{ItemAt, ValueAt, ItemsAt, opening, closing}
+use Rattle.tabled_json.specs.Grammar.{ValueAt, ItemsAt, closing}
 use Rattle.tabled_json.specs.WholeValues.{EndAt, NoEndAt, NoValueAt, IsInside, IsNext}
 use Rattle.tabled_json.specs.declared.value.Kind.{Kind}
 

@@ -1,10 +1,10 @@
 -- Values: what is behind their front, and that one thing only is behind them.
-use Rattle.tabled_json.proofs.Common.{◌≡◌, ◌∷◌, ◌∙◌, ◌⊎◌, inl, inr, [], ℕ, List, Bool, true, false, refl, sym, ap, subst, arith, heads, tails, NoneAt}
+use Rattle.tabled_json.proofs.Common.{◌≡◌, ◌∷◌, ◌∙◌, ◌⊎◌, inl, inr, ℕ, List, refl, sym, ap, subst, arith, heads, tails, NoneAt}
 use Rattle.tabled_json.proofs.KeyParts.{item-unique, key-no-quote, opening-same, closing-no-comma}
 use Rattle.tabled_json.proofs.Scalars.{scalar-unique, not-scalar}
 use Rattle.tabled_json.specs.Space.{NotBefore, behind_space}
 use Rattle.tabled_json.specs.Grammar.{KeyAt, ItemAt, ScalarAt, ValueAt, ItemsAt, opening, closing}
-use Rattle.tabled_json.specs.WholeValues.{EndAt, NoEndAt, NoValueAt, OpensNothing, IsInside, IsNext}
+use Rattle.tabled_json.specs.WholeValues.{EndAt, NoEndAt, NoValueAt, OpensNothing}
 use Rattle.tabled_json.specs.declared.value.Kind.{Kind}
 use Rattle.tabled_json.specs.declared.value.Kind.TheVariants.{Array, Object}
 

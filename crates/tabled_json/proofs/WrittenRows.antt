@@ -1,13 +1,13 @@
 -- Rows that are written are read back.
 use Rattle.std.specs.List.{AllByRecursion, zip}
-use Rattle.tabled_json.proofs.Common.{◌≡◌, ◌==◌, ◌&&◌, ◌∷◌, ◌++◌, ◌∙◌, [], ℕ, List, Bool, false, refl, sym, ap, subst, drop, if◌then◌else◌, map, IsUtf8}
+use Rattle.tabled_json.proofs.Common.{◌≡◌, ◌==◌, ◌∷◌, [], ℕ, List, false, refl, sym, subst, map, IsUtf8}
 use Rattle.tabled_json.proofs.Tabled.{table-back}
 use Rattle.tabled_json.proofs.WrittenRecords.{records-written}
 use Rattle.tabled_json.specs.Grammar.{IsRecords}
 use Rattle.tabled_json.specs.Laws.{IsTable}
 use Rattle.tabled_json.specs.Records.{MeansRecords, begins_with_mark, behind_mark}
 use Rattle.tabled_json.specs.Tables.{table_of}
-use Rattle.tabled_json.specs.Writing.{AreRecords, IsMember, lines_text, records_of, records_text}
+use Rattle.tabled_json.specs.Writing.{AreRecords, IsMember, records_of, records_text}
 use Rattle.tabled_json.specs.declared.form.Layout.{Layout}
 use Rattle.tabled_json.specs.declared.form.Layout.TheVariants.{Array, Lines}
 use Rattle.tabled_json.specs.declared.form.Values.{Values}

@@ -1,5 +1,5 @@
 -- JSON, and records in it (RFC 8259, sections 2 to 5). Each relation says that bytes begin with something, and what is behind it.
-use Rattle.std.specs.Prelude.{◌≡◌, ◌⊎◌, ◌==◌, if◌then◌else◌, ℕ, Bool, true, List, [], ◌∷◌, ◌-◌, length, take, IsUtf8, Option, None, Some}
+use Rattle.std.specs.Prelude.{◌≡◌, ◌==◌, if◌then◌else◌, ℕ, true, List, [], ◌∷◌, ◌-◌, length, take, IsUtf8, Option, None, Some}
 use Rattle.tabled_json.specs.Space.{behind_space}
 use Rattle.tabled_json.specs.Numbers.{is_number, numerals, behind_numerals}
 use Rattle.tabled_json.specs.Strings.{StringAt}
@@ -124,3 +124,13 @@ pub data AreLines : List ℕ → List (List (List ℕ × List ℕ)) → Type 0 w
 pub data IsRecords : List ℕ → List (List (List ℕ × List ℕ)) → Type 0 where
   array : {bytes : List ℕ} {objects : List (List (List ℕ × List ℕ))} (after : List ℕ) → ListAt ObjectAt 91 93 (behind_space bytes) objects after → behind_space after ≡ [] → IsRecords bytes objects
   lines : {bytes : List ℕ} {objects : List (List (List ℕ × List ℕ))} → AreLines bytes objects → IsRecords bytes objects
+
+-- a row: an array of values, each as the text of a cell
+abbrev pub RowAt : List ℕ → List (List ℕ) → List ℕ → Type 0
+RowAt bytes texts after = ListAt CellAt 91 93 bytes texts after
+
+-- bytes are rows: one array of them
+pub record AreRows (bytes : List ℕ) (rows : List (List (List ℕ))) : Type 0 where
+  pub after : List ℕ
+  pub is : ListAt RowAt 91 93 (behind_space bytes) rows after
+  pub ended : behind_space after ≡ []

@@ -1,7 +1,8 @@
 -- What the laws of JSON records say.
 use Rattle.std.specs.List.{AllByRecursion}
-use Rattle.std.specs.Prelude.{◌≡◌, ◌++◌, ℕ, List, [], ◌∷◌, IsUtf8, length}
+use Rattle.std.specs.Prelude.{◌≡◌, ◌++◌, ℕ, List, [], ◌∷◌, length}
 use Rattle.tabled_json.specs.Grammar.{ValueAt}
+use Rattle.tabled_json.specs.Meanings.{MeansTable}
 use Rattle.tabled_json.specs.Records.{MeansRecords}
 use Rattle.tabled_json.specs.Strings.{StringAt}
 use Rattle.tabled_json.specs.Tables.{AreDistinct, table_of}
@@ -12,6 +13,10 @@ use Rattle.tabled_json.specs.declared.form.Values.{Values}
 -- bytes mean one list of records at most
 abbrev pub MeansOneList : List ℕ → Type 0
 MeansOneList bytes = (objects others : List (List (List ℕ × List ℕ))) → MeansRecords bytes objects → MeansRecords bytes others → objects ≡ others
+
+-- bytes mean one table at most
+abbrev pub MeansOneTable : List ℕ → Type 0
+MeansOneTable bytes = (rows others : List (List (List ℕ))) → MeansTable bytes rows → MeansTable bytes others → rows ≡ others
 
 -- one thing at most is behind a value
 abbrev pub EndsOnce : List ℕ → Type 0

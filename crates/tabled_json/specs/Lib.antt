@@ -12,3 +12,4 @@ pub mod Writes
 pub mod Laws
 pub mod Tables
 pub mod Texts
+pub mod Meanings

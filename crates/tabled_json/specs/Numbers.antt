@@ -1,5 +1,5 @@
 -- Numbers (RFC 8259, section 6).
-use Rattle.std.specs.Prelude.{◌==◌, ◌&&◌, ◌||◌, nat_le, ℕ, Bool, true, false, List, [], ◌∷◌, if◌then◌else◌, Option, Some, None}
+use Rattle.std.specs.Prelude.{◌==◌, ◌&&◌, ◌||◌, nat_le, ℕ, Bool, true, false, List, [], ◌∷◌, if◌then◌else◌}
 
 -- a decimal digit
 abbrev pub is_digit : ℕ → Bool

@@ -4,9 +4,6 @@ use Rattle.std.specs.Global.{Vec}
 use Rattle.std.specs.Prelude.{◌≡◌, ◌==◌, ◌&&◌, ℕ, Bool, false, List, [], ◌∷◌, if◌then◌else◌, drop, map, IsUtf8}
 use Rattle.tabled_json.specs.Grammar.{AreLines, IsRecords}
 use Rattle.tabled_json.specs.declared.member.Member.{Member}
-use Rattle.tabled_json.specs.declared.fault.Fault.{Fault}
-use Rattle.tabled_json.specs.declared.fault.ReadError.{ReadError}
-use Rattle.tabled_json.specs.declared.fault.ReadError.TheVariants as error
 
 -- a text is these bytes
 pub record HoldsText (bytes : List ℕ) (text : Bor (List ℕ)) : Type 0 where
@@ -59,8 +56,3 @@ MeansRecords bytes objects = IsRecords (behind_mark bytes) objects
 -- bytes mean no records
 abbrev pub MeansNoRecords : List ℕ → Type 0
 MeansNoRecords bytes = NoRecords (behind_mark bytes)
-
--- where memory was not refused, there is a fault, in a line and a column
-abbrev pub AtFault : (ℕ → ℕ → Fault → Type 0) → ReadError → Type 0
-AtFault P (error.Faulty line column fault) = P line column fault
-AtFault P error.OutOfMemory = Unit {0}

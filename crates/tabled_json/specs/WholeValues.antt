@@ -1,5 +1,5 @@
 -- Values, part by part.
-use Rattle.std.specs.Prelude.{◌≡◌, ◌⊎◌, ℕ, List, [], ◌∷◌, length}
+use Rattle.std.specs.Prelude.{◌≡◌, ◌⊎◌, ℕ, List, ◌∷◌, length}
 use Rattle.tabled_json.specs.Space.{NotBefore, behind_space}
 use Rattle.tabled_json.specs.Grammar.{ItemAt, ItemsAt, ValueAt, closing, opening}
 use Rattle.tabled_json.specs.declared.value.Kind.{Kind}

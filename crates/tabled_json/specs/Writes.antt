@@ -31,6 +31,13 @@ IsRefused OutOfMemory = Unit {0}
 IsRefused (EqualKeys first second) = Unit {0}
 IsRefused (LongRow row) = Unit {0}
 
+-- it is not that a row is too long
+abbrev pub IsNoLongRow : WriteError → Type 0
+IsNoLongRow (LongRow row) = ⊥
+IsNoLongRow OutOfMemory = Unit {0}
+IsNoLongRow (EqualKeys first second) = Unit {0}
+IsNoLongRow (Failed error) = Unit {0}
+
 -- where the writer failed
 abbrev pub OnFailed : Result (Unit {0}) WriteError → Type 0 → Type 0
 OnFailed (Err (Failed error)) P = P

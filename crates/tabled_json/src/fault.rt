@@ -13,13 +13,31 @@ pub enum Fault {
     NotUtf8,
     /// The bytes end too early.
     Ended,
+    /// An object is wanted here.
+    NoObject,
+    /// An array is wanted here.
+    NoArray,
+    /// A comma is not wanted here.
+    Comma,
+    /// A bracket that closes is not wanted here, as behind a comma.
+    Closing,
+    /// A single quote, where JSON has double ones alone.
+    SingleQuote,
+    /// Something that begins like a comment.
+    Comment,
+    /// A letter that begins none of the words `true`, `false` and `null`, as in `NaN`.
+    NoWord,
     /// Something else is wanted here.
     Unexpected,
     /// It begins like a number, and is none.
     BadNumber,
-    /// A string isn't closed, or holds a control character.
-    BadString,
-    /// A backslash with no meaning, or half of a surrogate pair.
+    /// A string isn't closed: its first byte is told.
+    Unclosed,
+    /// A control character stands in a string.
+    Control,
+    /// Behind `\u` are no four hexadecimal digits, or half of a surrogate pair.
+    BadUnicode,
+    /// Another backslash with no meaning.
     BadEscape,
 }
 
@@ -33,9 +51,18 @@ impl fmt::Display for Fault {
         match self {
             Fault::NotUtf8 => write!(f, "a text is not UTF-8"),
             Fault::Ended => write!(f, "the end comes too early"),
+            Fault::NoObject => write!(f, "an object is wanted here"),
+            Fault::NoArray => write!(f, "an array is wanted here"),
+            Fault::Comma => write!(f, "a comma is not wanted here"),
+            Fault::Closing => write!(f, "a closing bracket is not wanted here"),
+            Fault::SingleQuote => write!(f, "a single quote is no quote of JSON"),
+            Fault::Comment => write!(f, "JSON has no comments"),
+            Fault::NoWord => write!(f, "a word that JSON does not have"),
             Fault::Unexpected => write!(f, "something else is wanted here"),
             Fault::BadNumber => write!(f, "a number is badly written"),
-            Fault::BadString => write!(f, "a string is not closed, or holds a control character"),
+            Fault::Unclosed => write!(f, "a string is not closed"),
+            Fault::Control => write!(f, "a control character stands in a string"),
+            Fault::BadUnicode => write!(f, "\\u names no character"),
             Fault::BadEscape => write!(f, "a backslash has no meaning"),
         }
     }
@@ -159,8 +186,22 @@ impl<T: Drop> From<AllocFailed<T>> for Unread {
 
 /// What is told where something else is wanted.
 pub(crate) fn unexpected(bytes: &[u8]) -> Unread {
-    if bytes.is_empty() {
+    wanted(Fault::Unexpected, bytes)
+}
+
+/// What is told where something is wanted that bytes don't begin with: by what they begin with, where that is often
+/// written, or else so.
+pub(crate) fn wanted(fault: Fault, bytes: &[u8]) -> Unread {
+    let Some(first) = bytes.first() else {
         return Unread::Faulty(Fault::Ended, 0);
-    }
-    Unread::Faulty(Fault::Unexpected, bytes.len())
+    };
+    let told = match *first {
+        b',' => Fault::Comma,
+        b']' | b'}' => Fault::Closing,
+        b'\'' => Fault::SingleQuote,
+        b'/' | b'#' => Fault::Comment,
+        b'A'..=b'Z' | b'a'..=b'z' => Fault::NoWord,
+        _ => fault,
+    };
+    Unread::Faulty(told, bytes.len())
 }

@@ -2,12 +2,17 @@
 
 ghost use Rattle.std.specs.List.{AllByRecursion};
 ghost use Rattle.std.specs.Prelude.{ℕ, List, IsUtf8};
-ghost use Rattle.tabled_json.specs.Laws.{AreReadBack, EndsOnce, IsReadBack, IsTable, MeansOneList, RowsAreReadBack};
+ghost use Rattle.tabled_json.specs.Laws.{AreReadBack, EndsOnce, IsReadBack, IsTable, MeansOneList, MeansOneTable, RowsAreReadBack};
 ghost use Rattle.tabled_json.specs.Writing.{AreRecords};
 
 /// Bytes mean one list of records at most.
 pub fn bytes_mean_one_list_of_records()
     ensures { (bytes : List ℕ) → MeansOneList bytes }
+{}
+
+/// Bytes mean one table at most, whether they are records or rows.
+pub fn bytes_mean_one_table()
+    ensures { (bytes : List ℕ) → MeansOneTable bytes }
 {}
 
 /// One thing at most is behind a value.

@@ -1,6 +1,8 @@
 //! Records as JSON, read as a table of texts, and written.
 #![tactic(auto)]
 
+mod arrays;
+mod cell;
 mod fault;
 mod form;
 mod keyed;
@@ -9,6 +11,7 @@ pub mod laws;
 mod list;
 mod member;
 mod number;
+mod place;
 mod record;
 mod room;
 mod rows;
@@ -24,5 +27,5 @@ pub use form::{Layout, Values};
 pub use member::Member;
 pub use record::read;
 pub use room::{Room, Spare};
-pub use tabling::table;
+pub use tabling::{read_table, read_table_with, table};
 pub use writing::{write, write_records};

@@ -1,65 +1,20 @@
 //! Records, read.
 
-ghost use Rattle.std.specs.Prelude.{◌≡◌, ◌<◌, ◌≤◌, ◌+◌, ◌==◌, if◌then◌else◌, IfErr, IfOk, IsUtf8, MatchResult, length};
-ghost use Rattle.tabled_json.specs.Grammar.{AreLines, CellAt, ElementsAt, IsRecords, ListAt, MemberAt, ObjectAt};
+ghost use Rattle.std.specs.Prelude.{◌<◌, IfErr, IfOk, MatchResult, length};
+ghost use Rattle.tabled_json.specs.Grammar.{AreLines, ElementsAt, IsRecords, ListAt, MemberAt, ObjectAt};
 ghost use Rattle.tabled_json.specs.Reading.{NoneAt, WasFaulty};
-ghost use Rattle.tabled_json.specs.Places.{IsPlace, column_at, column_behind, line_at};
-ghost use Rattle.tabled_json.specs.Records.{AtFault, HoldsText, MeansNoRecords, MeansRecords, NoLines, NoRecords, begins_with_mark, behind_mark, member_of, members_of, objects_of};
+ghost use Rattle.tabled_json.specs.Places.{AtFault, IsPlace};
+ghost use Rattle.tabled_json.specs.Records.{MeansNoRecords, MeansRecords, NoLines, NoRecords, behind_mark, member_of, members_of, objects_of};
 
-use crate::fault::{Fault, ReadError, Unread, unexpected};
+use crate::cell::{behind_quote, cell, text_of};
+use crate::fault::{Fault, ReadError, Unread, unexpected, wanted};
 use crate::list::{Behind, behind_element};
 use crate::member::Member;
+use crate::place::{behind_mark, told};
 use crate::room::{Room, Spare};
-use crate::scalar::scalar;
 use crate::space::{behind_byte, behind_space};
-use crate::value::{behind_value, key, opened};
+use crate::value::key;
 use std::alloc::Global;
-use std::str;
-
-/// The bytes of U+FEFF, the byte order mark.
-const MARK: [u8; 3] = [0xEF, 0xBB, 0xBF];
-
-/// Bytes as a text, lent by a source that begins with it, or else a copy. So many bytes are left where it shows.
-fn text_of<'a>(
-    source: &'a [u8],
-    bytes: &[u8],
-    spare: &mut Spare<'a>,
-    left: usize,
-) -> Result<&'a str, Unread>
-    ensures { MatchResult result (HoldsText bytes.now) (WasFaulty (IsUtf8 bytes.now → ⊥)) }
-{
-    let lent = spare.lend(source, bytes)?;
-    match str::from_utf8(lent) {
-        Ok(text) => Ok(text),
-        Err(_) => Err(Unread::Faulty(Fault::NotUtf8, left)),
-    }
-}
-
-/// The bytes behind a quote, if they begin with one.
-fn behind_quote(bytes: &[u8]) -> &[u8] {
-    behind_byte(b'"', bytes).unwrap_or(bytes)
-}
-
-/// The text of the value at the front, and the bytes behind it.
-fn cell<'a>(
-    alloc: Global,
-    bytes: &'a [u8],
-    scratch: &mut Vec<u8>,
-    spare: &mut Spare<'a>,
-) -> Result<(&'a str, &'a [u8]), Unread>
-    ensures read { MatchResult result (λ r. CellAt bytes.now r.0.now r.1.now) (WasFaulty (NoneAt CellAt bytes.now)) }
-    ensures shorter { IfOk result (λ r. length r.1.now ≤ length bytes.now) }
-{
-    if let Some((_kind, _inner)) = opened(bytes) {
-        let after = behind_value(alloc, bytes, scratch)?;
-        let value = &bytes[..bytes.len() - after.len()];
-        let text = text_of(bytes, value, spare, bytes.len())?;
-        return Ok((text, after));
-    }
-    let after = scalar(bytes, scratch)?;
-    let text = text_of(behind_quote(bytes), scratch.as_slice(), spare, bytes.len())?;
-    Ok((text, after))
-}
 
 /// The member at the front, and the bytes behind it.
 fn read_member<'a>(
@@ -111,7 +66,7 @@ fn object<'a>(
     ensures shorter { IfOk result (λ r. length r.1.now < length bytes.now) }
 {
     let Some(inner) = behind_byte(123, bytes) else {
-        return Err(unexpected(bytes));
+        return Err(wanted(Fault::NoObject, bytes));
     };
     let first = behind_space(inner);
     if let Some(after) = behind_byte(125, first) {
@@ -190,7 +145,7 @@ fn lines<'a>(
 }
 
 /// The objects that bytes are: those of one array, or one after another.
-fn records<'a>(
+pub(crate) fn records<'a>(
     alloc: Global,
     bytes: &'a [u8],
     scratch: &mut Vec<u8>,
@@ -209,60 +164,6 @@ fn records<'a>(
         return Ok(list);
     }
     Err(unexpected(rest))
-}
-
-/// Whether bytes begin with a byte order mark.
-fn begins_with_mark(bytes: &[u8]) -> bool
-    ensures { result ≡ begins_with_mark bytes.now }
-{
-    3 <= bytes.len() && bytes[0] == MARK[0] && bytes[1] == MARK[1] && bytes[2] == MARK[2]
-}
-
-/// Bytes behind a byte order mark, if they begin with one.
-fn behind_mark(bytes: &[u8]) -> &[u8]
-    ensures { result.now ≡ behind_mark bytes.now }
-{
-    if begins_with_mark(bytes) {
-        return &bytes[3..];
-    }
-    bytes
-}
-
-/// In which line of bytes so many of them are left.
-fn line_at(bytes: &[u8], left: usize) -> usize
-    ensures { result ≡ line_at bytes.now left }
-{
-    1 + bytes[..bytes.len().saturating_sub(left)]
-        .iter()
-        .filter(|b| **b == b'\n')
-        .count()
-}
-
-/// The column behind a byte that stands in a column.
-fn next_column(column: usize, byte: u8) -> usize
-    requires { column < 18446744073709551615 }
-    ensures value { result ≡ (if byte == 10 then 1 else column + 1) }
-    ensures small { result ≤ column + 1 }
-{
-    if byte == b'\n' { 1 } else { column + 1 }
-}
-
-/// The column behind bytes.
-fn column_behind(bytes: &[u8]) -> usize
-    ensures { result ≡ column_behind 1 bytes.now }
-{
-    let mut column = 1;
-    for byte in bytes {
-        column = next_column(column, *byte);
-    }
-    column
-}
-
-/// In which column of its line the byte is from which on so many are left.
-fn column_at(bytes: &[u8], left: usize) -> usize
-    ensures { result ≡ column_at bytes.now left }
-{
-    column_behind(&bytes[..bytes.len().saturating_sub(left)])
 }
 
 /// The objects that bytes mean as JSON: those of one array, or one after another with whitespace between them or not.
@@ -288,15 +189,6 @@ pub fn read<'a>(
     let mut scratch = Vec::new(alloc);
     match records(alloc, text, &mut scratch, &mut Spare::new(room)) {
         Ok(objects) => Ok(objects),
-        Err(Unread::Faulty(fault, left)) => {
-            let line = line_at(text, left);
-            let column = column_at(text, left);
-            Err(ReadError::Faulty {
-                line,
-                column,
-                fault,
-            })
-        }
-        Err(Unread::OutOfMemory) => Err(ReadError::OutOfMemory),
+        Err(unread) => Err(told(text, unread)),
     }
 }

@@ -1,12 +1,22 @@
-//! The table of records.
+//! The table of records, and the tables that bytes mean.
 
-ghost use Rattle.std.specs.Prelude.{◌≡◌, [], IfOk, OnOk, map};
-ghost use Rattle.tabled_json.specs.Records.{all_of, list_of};
+ghost use Rattle.std.specs.Prelude.{◌≡◌, [], IfErr, IfOk, MatchResult, OnOk, map};
+ghost use Rattle.tabled_json.specs.Meanings.{HoldsTable, MeansNoTable, MeansTable, HoldsNoTable, begins_rows};
+ghost use Rattle.tabled_json.specs.Places.{AtFault, IsPlace};
+ghost use Rattle.tabled_json.specs.Reading.{WasFaulty};
+ghost use Rattle.tabled_json.specs.Records.{all_of, behind_mark, list_of};
+ghost use Rattle.tabled_json.specs.Space.{behind_space};
 ghost use Rattle.tabled_json.specs.Tables.{AreListed, keys_of, row_of, table_of, with_members};
 ghost use Rattle.tabled_json.specs.Texts.{rows_of, text_of, texts_of};
 
+use crate::arrays::array_rows;
+use crate::fault::{ReadError, Unread};
 use crate::keys::Keys;
 use crate::member::Member;
+use crate::place::{behind_mark, told};
+use crate::record::records;
+use crate::room::{Room, Spare};
+use crate::space::{behind_byte, behind_space};
 use std::alloc::{AllocError, Global};
 
 /// Adds the keys of an object that aren't there.
@@ -96,4 +106,72 @@ pub fn table<'a>(
     }
     rows.insert(0, keys.texts)?;
     Ok(rows)
+}
+
+/// Whether bytes begin with an array that holds an array first.
+fn begins_rows(bytes: &[u8]) -> bool
+    ensures { result ≡ begins_rows (behind_space bytes.now) }
+{
+    let Some(inner) = behind_byte(b'[', behind_space(bytes)) else {
+        return false;
+    };
+    behind_byte(b'[', behind_space(inner)).is_some()
+}
+
+/// The table that bytes are: their rows as they are, or that of their records.
+fn whole_table<'a>(
+    alloc: Global,
+    bytes: &'a [u8],
+    spare: &mut Spare<'a>,
+) -> Result<Vec<Vec<&'a str>>, Unread>
+    ensures { MatchResult result (λ rows. HoldsTable bytes.now (rows_of rows.items)) (WasFaulty (HoldsNoTable bytes.now)) }
+{
+    let mut scratch = Vec::new(alloc);
+    if begins_rows(bytes) {
+        return array_rows(alloc, bytes, &mut scratch, spare);
+    }
+    let objects = records(alloc, bytes, &mut scratch, spare)?;
+    let rows = table(alloc, objects.as_slice())?;
+    Ok(rows)
+}
+
+/// The table that bytes mean as JSON: where they are one array of arrays these are its rows, as they are, and else it
+/// is the table of the records that `read` gives. A byte order mark in front is passed over.
+///
+/// Rows may differ in length. The texts are those that `read` gives, lent as it lends them.
+///
+/// Of this project.
+pub fn read_table<'a>(
+    alloc: Global,
+    bytes: &'a [u8],
+    room: &'a mut Room,
+) -> Result<Vec<Vec<&'a str>>, ReadError>
+    ensures table { IfOk result (λ rows. MeansTable bytes.now (rows_of rows.items)) }
+
+    // Where there is a fault, no table is the meaning of these bytes.
+    ensures none { IfErr result (AtFault (λ line column fault. MeansNoTable bytes.now)) }
+    ensures place { IfErr result (AtFault (λ line column fault. IsPlace (behind_mark bytes.now) line column)) }
+{
+    read_table_with(alloc, bytes, &mut Spare::new(room))
+}
+
+/// The table that bytes mean as JSON, as `read_table` gives it. What a room has left may serve for several.
+///
+/// Of this project.
+pub fn read_table_with<'a>(
+    alloc: Global,
+    bytes: &'a [u8],
+    spare: &mut Spare<'a>,
+) -> Result<Vec<Vec<&'a str>>, ReadError>
+    ensures table { IfOk result (λ rows. MeansTable bytes.now (rows_of rows.items)) }
+
+    // Where there is a fault, no table is the meaning of these bytes.
+    ensures none { IfErr result (AtFault (λ line column fault. MeansNoTable bytes.now)) }
+    ensures place { IfErr result (AtFault (λ line column fault. IsPlace (behind_mark bytes.now) line column)) }
+{
+    let text = behind_mark(bytes);
+    match whole_table(alloc, text, spare) {
+        Ok(rows) => Ok(rows),
+        Err(unread) => Err(told(text, unread)),
+    }
 }

@@ -7,7 +7,7 @@ ghost use Rattle.tabled_held.specs.Pens.{Sends};
 ghost use Rattle.tabled_held.specs.Sent.{IsCutShort};
 ghost use Rattle.tabled_json.specs.Strings.{is_plain};
 ghost use Rattle.tabled_json.specs.Texts.{cells_by, row_at, rows_by};
-ghost use Rattle.tabled_json.specs.Writes.{AreKeyed, IsWhy, OnFailed, OnRefused};
+ghost use Rattle.tabled_json.specs.Writes.{AreKeyed, IsNoLongRow, IsWhy, OnFailed, OnRefused};
 ghost use Rattle.tabled_json.specs.Writing.{before_index, escape, hex_letter, is_bare, json_of, lines_text, member_text, object_text, records_of, records_text, string_of, value_of};
 ghost use Rattle.tabled_json.specs.declared.form.Layout.TheVariants.{Array};
 
@@ -241,6 +241,7 @@ where
     // Rows are written only where their keys differ and each of their texts has a key; else it is told why they aren't.
     ensures keyed { OnOk result (AreKeyed (cells_by R.Cell.text_of (R.grid records.now))) }
     ensures why { IfErr result (IsWhy (cells_by R.Cell.text_of (R.grid records.now))) }
+    ensures even { IfErr result IsNoLongRow }
 
     // Where it is not the writer that failed it got nothing, and where it did the first bytes, and not all.
     ensures refused { OnRefused result (W.contents writer.new ≡ W.contents writer.old) }

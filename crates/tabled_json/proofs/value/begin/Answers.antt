@@ -1,6 +1,6 @@
-use Rattle.tabled_json.proofs.Common.{◌≡◌, ◌∷◌, ◌∙◌, ℕ, List, sym, ap, subst, err_from_is_err_and, faulty-from}
+use Rattle.tabled_json.proofs.Common.{◌≡◌, ◌∷◌, ◌∙◌, ℕ, sym, ap, subst, err_from_is_err_and, faulty-from}
 use Rattle.tabled_json.specs.Space.{NotBefore, behind_space}
-use Rattle.tabled_json.specs.Grammar.{ItemAt, ValueAt, opening, closing}
+use Rattle.tabled_json.specs.Grammar.{ValueAt, closing}
 use Rattle.tabled_json.specs.WholeValues.{NoItemAt, NoValueAt}
 use Rattle.tabled_json.proofs.WholeValues.{no-inside}
 use Rattle.tabled_json.proofs.value.begin.Goals as goal

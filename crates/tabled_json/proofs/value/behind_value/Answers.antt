@@ -1,4 +1,4 @@
-use Rattle.tabled_json.proofs.Common.{◌≡◌, ◌∷◌, ◌∙◌, ◌<◌, Bool, true, false, ℕ, List, arith, length, reverse, reversed-top, sym, ap, subst, err_from_is_err_and, faulty-from}
+use Rattle.tabled_json.proofs.Common.{◌≡◌, ◌∷◌, ◌<◌, Bool, true, false, List, arith, length, reverse, reversed-top, sym, subst, err_from_is_err_and, faulty-from}
 use Rattle.tabled_json.proofs.Nesting.{ValueRead, nest-no-end, nest-next, nest-whole, nest-inside}
 use Rattle.tabled_json.specs.Grammar.{ValueAt}
 use Rattle.tabled_json.specs.WholeValues.{NoEndAt, NoValueAt, IsNext, IsInside}

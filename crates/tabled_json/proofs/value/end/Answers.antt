@@ -1,8 +1,7 @@
-use Rattle.tabled_json.proofs.Common.{◌≡◌, ◌∷◌, ◌∙◌, ℕ, List, sym, ap, subst, err_from_is_err_and, faulty-from}
-use Rattle.tabled_json.specs.Space.{NotBefore, behind_space}
-use Rattle.tabled_json.specs.Grammar.{closing}
+use Rattle.tabled_json.proofs.Common.{◌≡◌, ◌∷◌, ◌∙◌, ℕ, sym, ap, subst, err_from_is_err_and, faulty-from}
+use Rattle.tabled_json.specs.Space.{behind_space}
 use Rattle.tabled_json.specs.WholeValues.{NoItemAt, NoEndAt}
-use Rattle.tabled_json.proofs.WholeValues.{no-next, no-end}
+use Rattle.tabled_json.proofs.WholeValues.{no-next}
 use Rattle.tabled_json.proofs.value.end.Goals as goal
 
 pub returns-in-Some-clause-read : goal.returns-in-Some-clause-read

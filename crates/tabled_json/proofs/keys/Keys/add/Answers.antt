@@ -2,7 +2,7 @@ use Rattle.std.proofs.Common.{ap₂}
 use Rattle.std.proofs.lemmas.Map.Text.{btree_map_updates_str}
 use Rattle.std.specs.Str.{bytes_eq}
 use Rattle.tabled_json.proofs.Columns.{find-added, none-among, none-from, option-some, with-known, with-new}
-use Rattle.tabled_json.proofs.Common.{◌≡◌, ◌∷◌, ◌∙◌, ◌++◌, [], ℕ, List, None, Option, Some, ap, cond, length, map, map-append, not, subst, sym}
+use Rattle.tabled_json.proofs.Common.{◌≡◌, ◌∷◌, ◌∙◌, ◌++◌, [], ℕ, None, Option, Some, ap, cond, length, map, map-append, not, subst, sym}
 use Rattle.tabled_json.proofs.Parts.{length-map}
 use Rattle.tabled_json.proofs.Tabled.{distinct-more}
 use Rattle.tabled_json.specs.Tables.{AreDistinct, find_key}

@@ -1,6 +1,6 @@
 use Rattle.tabled_json.proofs.Common.{◌≡◌, ◌≤◌, ◌+◌, take}
 use Rattle.tabled_json.specs.Places.{column_behind}
-use Rattle.tabled_json.proofs.record.column_behind.Given as goal
+use Rattle.tabled_json.proofs.place.column_behind.Given as goal
 
 abbrev pub invariant-loop-byte : goal.invariant-loop-byte
 invariant-loop-byte l = record {

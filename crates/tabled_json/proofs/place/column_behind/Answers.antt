@@ -1,6 +1,6 @@
 use Rattle.tabled_json.proofs.Common.{◌==◌, ◌+◌, ◌∙◌, ℕ, ap, arith, cond, get_or}
 use Rattle.tabled_json.proofs.Taken.{column-next}
-use Rattle.tabled_json.proofs.record.column_behind.Goals as goal
+use Rattle.tabled_json.proofs.place.column_behind.Goals as goal
 
 pub loop-byte-preserved : goal.loop-byte-preserved
 loop-byte-preserved c =

@@ -1,8 +1,8 @@
-use Rattle.tabled_json.proofs.Common.{◌≡◌, ◌∷◌, ◌∙◌, ℕ, List, IsUtf8, NoneAt, refl, sym, ap, subst, err_from_is_err_and, faulty-from}
+use Rattle.tabled_json.proofs.Common.{◌∙◌, ℕ, List, IsUtf8, NoneAt, refl, sym, subst, err_from_is_err_and, faulty-from}
 use Rattle.tabled_json.specs.Grammar.{CellAt, CellTextAt, ScalarAt, before}
 use Rattle.tabled_json.specs.WholeValues.{NoValueAt}
 use Rattle.tabled_json.proofs.Cells.{no-nested, not-utf8}
-use Rattle.tabled_json.proofs.record.cell.Goals as goal
+use Rattle.tabled_json.proofs.cell.cell.Goals as goal
 
 pub returns-in_err-after-clause-read : goal.returns-in_err-after-clause-read
 returns-in_err-after-clause-read c =

@@ -1,0 +1,122 @@
+//! Rows, read: an array of arrays.
+
+ghost use Rattle.std.specs.Prelude.{◌<◌, IfOk, MatchResult, length};
+ghost use Rattle.tabled_json.specs.Grammar.{AreRows, CellAt, ElementsAt, ListAt, RowAt};
+ghost use Rattle.tabled_json.specs.Meanings.{NoRows};
+ghost use Rattle.tabled_json.specs.Reading.{NoneAt, WasFaulty};
+ghost use Rattle.tabled_json.specs.Texts.{rows_of, texts_of};
+
+use crate::cell::cell;
+use crate::fault::{Fault, Unread, unexpected, wanted};
+use crate::list::{Behind, behind_element};
+use crate::room::Spare;
+use crate::space::{behind_byte, behind_space};
+use std::alloc::Global;
+
+/// The texts from the front on, and the bytes behind their row.
+fn texts<'a>(
+    alloc: Global,
+    bytes: &'a [u8],
+    scratch: &mut Vec<u8>,
+    spare: &mut Spare<'a>,
+) -> Result<(Vec<&'a str>, &'a [u8]), Unread>
+    ensures read { MatchResult result (λ r. ElementsAt CellAt 93 bytes.now (texts_of r.0) r.1.now) (WasFaulty (NoneAt (ElementsAt CellAt 93) bytes.now)) }
+    ensures shorter { IfOk result (λ r. length r.1.now < length bytes.now) }
+{
+    let mut texts = Vec::new(alloc);
+    let mut rest = bytes;
+    'texts: loop {
+        let (found, behind) = cell(alloc, rest, scratch, spare)?;
+        texts.push(found)?;
+        let tail = behind_element(93, behind)?;
+        match tail {
+            Behind::Closed(after) => return Ok((texts, after)),
+            Behind::Next(next) => rest = next,
+        }
+    }
+}
+
+/// The row at the front, and the bytes behind it.
+fn row<'a>(
+    alloc: Global,
+    bytes: &'a [u8],
+    scratch: &mut Vec<u8>,
+    spare: &mut Spare<'a>,
+) -> Result<(Vec<&'a str>, &'a [u8]), Unread>
+    ensures read { MatchResult result (λ r. RowAt bytes.now (texts_of r.0) r.1.now) (WasFaulty (NoneAt RowAt bytes.now)) }
+    ensures shorter { IfOk result (λ r. length r.1.now < length bytes.now) }
+{
+    let Some(inner) = behind_byte(91, bytes) else {
+        return Err(wanted(Fault::NoArray, bytes));
+    };
+    let first = behind_space(inner);
+    if let Some(after) = behind_byte(93, first) {
+        let none = Vec::new(alloc);
+        return Ok((none, after));
+    }
+    let (all, after) = texts(alloc, first, scratch, spare)?;
+    Ok((all, after))
+}
+
+/// The rows from the front on, and the bytes behind their array.
+fn rows<'a>(
+    alloc: Global,
+    bytes: &'a [u8],
+    scratch: &mut Vec<u8>,
+    spare: &mut Spare<'a>,
+) -> Result<(Vec<Vec<&'a str>>, &'a [u8]), Unread>
+    ensures read { MatchResult result (λ r. ElementsAt RowAt 93 bytes.now (rows_of r.0.items) r.1.now) (WasFaulty (NoneAt (ElementsAt RowAt 93) bytes.now)) }
+    ensures shorter { IfOk result (λ r. length r.1.now < length bytes.now) }
+{
+    let mut rows = Vec::new(alloc);
+    let mut rest = bytes;
+    'rows: loop {
+        let (found, behind) = row(alloc, rest, scratch, spare)?;
+        rows.push(found)?;
+        let tail = behind_element(93, behind)?;
+        match tail {
+            Behind::Closed(after) => return Ok((rows, after)),
+            Behind::Next(next) => rest = next,
+        }
+    }
+}
+
+/// The array of rows at the front, and the bytes behind it.
+fn array<'a>(
+    alloc: Global,
+    bytes: &'a [u8],
+    scratch: &mut Vec<u8>,
+    spare: &mut Spare<'a>,
+) -> Result<(Vec<Vec<&'a str>>, &'a [u8]), Unread>
+    ensures read { MatchResult result (λ r. ListAt RowAt 91 93 bytes.now (rows_of r.0.items) r.1.now) (WasFaulty (NoneAt (ListAt RowAt 91 93) bytes.now)) }
+    ensures shorter { IfOk result (λ r. length r.1.now < length bytes.now) }
+{
+    let Some(inner) = behind_byte(91, bytes) else {
+        return Err(unexpected(bytes));
+    };
+    let first = behind_space(inner);
+    if let Some(after) = behind_byte(93, first) {
+        let none = Vec::new(alloc);
+        return Ok((none, after));
+    }
+    let (all, after) = rows(alloc, first, scratch, spare)?;
+    Ok((all, after))
+}
+
+/// The rows that bytes are: those of one array.
+pub(crate) fn array_rows<'a>(
+    alloc: Global,
+    bytes: &'a [u8],
+    scratch: &mut Vec<u8>,
+    spare: &mut Spare<'a>,
+) -> Result<Vec<Vec<&'a str>>, Unread>
+    ensures { MatchResult result (λ rows. AreRows bytes.now (rows_of rows.items)) (WasFaulty (NoRows bytes.now)) }
+{
+    let first = behind_space(bytes);
+    let (rows, after) = array(alloc, first, scratch, spare)?;
+    let rest = behind_space(after);
+    if rest.is_empty() {
+        return Ok(rows);
+    }
+    Err(unexpected(rest))
+}

@@ -1,0 +1,56 @@
+//! Values as the texts of cells, read.
+
+ghost use Rattle.std.specs.Prelude.{◌≡◌, ◌≤◌, IfOk, IsUtf8, MatchResult, length};
+ghost use Rattle.tabled_json.specs.Grammar.{CellAt};
+ghost use Rattle.tabled_json.specs.Reading.{NoneAt, WasFaulty};
+ghost use Rattle.tabled_json.specs.Records.{HoldsText};
+
+use crate::fault::{Fault, Unread};
+use crate::room::Spare;
+use crate::scalar::scalar;
+use crate::space::behind_byte;
+use crate::value::{behind_value, opened};
+use std::alloc::Global;
+use std::str;
+
+/// Bytes as a text, lent by a source that begins with it, or else a copy. So many bytes are left where it shows.
+pub(crate) fn text_of<'a>(
+    source: &'a [u8],
+    bytes: &[u8],
+    spare: &mut Spare<'a>,
+    left: usize,
+) -> Result<&'a str, Unread>
+    ensures { MatchResult result (HoldsText bytes.now) (WasFaulty (IsUtf8 bytes.now → ⊥)) }
+{
+    let lent = spare.lend(source, bytes)?;
+    match str::from_utf8(lent) {
+        Ok(text) => Ok(text),
+        Err(_) => Err(Unread::Faulty(Fault::NotUtf8, left)),
+    }
+}
+
+/// The bytes behind a quote, if they begin with one.
+pub(crate) fn behind_quote(bytes: &[u8]) -> &[u8] {
+    behind_byte(b'"', bytes).unwrap_or(bytes)
+}
+
+/// The text of the value at the front, and the bytes behind it.
+pub(crate) fn cell<'a>(
+    alloc: Global,
+    bytes: &'a [u8],
+    scratch: &mut Vec<u8>,
+    spare: &mut Spare<'a>,
+) -> Result<(&'a str, &'a [u8]), Unread>
+    ensures read { MatchResult result (λ r. CellAt bytes.now r.0.now r.1.now) (WasFaulty (NoneAt CellAt bytes.now)) }
+    ensures shorter { IfOk result (λ r. length r.1.now ≤ length bytes.now) }
+{
+    if let Some((_kind, _inner)) = opened(bytes) {
+        let after = behind_value(alloc, bytes, scratch)?;
+        let value = &bytes[..bytes.len() - after.len()];
+        let text = text_of(bytes, value, spare, bytes.len())?;
+        return Ok((text, after));
+    }
+    let after = scalar(bytes, scratch)?;
+    let text = text_of(behind_quote(bytes), scratch.as_slice(), spare, bytes.len())?;
+    Ok((text, after))
+}
