@@ -6,12 +6,14 @@ pub mod Glued
 pub mod Joins
 pub mod KeptBack
 pub mod KeptLines
+pub mod KeyOrders
 pub mod LineReads
 pub mod LineSwaps
 pub mod Mapped
 pub mod MirroredParts
 pub mod MirroredSpans
 pub mod NamedLines
+pub mod OneOrder
 pub mod PiecePlaces
 pub mod PieceReads
 pub mod PiecesDone
@@ -24,7 +26,9 @@ pub mod Rewriting
 pub mod RisingLists
 pub mod Rotated
 pub mod RowByRow
+pub mod RowKeys
 pub mod SameCells
+pub mod SortedRows
 pub mod SplitWorked
 pub mod Sums
 pub mod SwapsFound

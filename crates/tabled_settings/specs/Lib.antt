@@ -2,8 +2,10 @@ pub mod Arranged
 pub mod Charsets
 pub mod Contents
 pub mod Dups
+pub mod InOrder
 pub mod Joined
 pub mod Kept
+pub mod Keys
 pub mod Lines
 pub mod Named
 pub mod Orders
@@ -12,5 +14,6 @@ pub mod PieceTexts
 pub mod Pieces
 pub mod Rearranged
 pub mod Rewrites
+pub mod Sorted
 pub mod TakenOnce
 pub mod Wraps

@@ -134,7 +134,7 @@ fn swaps_to(
 }
 
 /// The indexes below a count, in order.
-fn all_indexes(alloc: Global, count: usize) -> Result<Vec<usize>, AllocError>
+pub(crate) fn all_indexes(alloc: Global, count: usize) -> Result<Vec<usize>, AllocError>
     ensures { IfOk result (λ all. all.items ≡ range_with_len 0 count) }
 {
     let mut all = Vec::with_capacity(alloc, count)?;

@@ -1,7 +1,10 @@
 //! Laws of what options do. Each is the contract of a function that does nothing.
 
 ghost use Rattle.std.specs.Prelude.{◌≡◌, ◌<◌, ◌≤◌, ℕ, Bool, List, true};
-ghost use Rattle.std.specs.List.{AllByRecursion};
+ghost use Rattle.std.specs.List.{AllByRecursion, range_with_len};
+ghost use Rattle.std.specs.Cmp.{IsTotalOrder};
+ghost use Rattle.std.specs.List.Sorted.{IsPermutation};
+ghost use Rattle.std.specs.declared.cmp.Ordering.{Ordering};
 ghost use Rattle.tabled_grid.specs.Grid.{Grid, IsEven};
 ghost use Rattle.tabled_grid.specs.declared.records.axis.Axis.{Axis};
 ghost use Rattle.tabled_options.specs.Kept.{KeepsFitting, KeepsFittingOnEach};
@@ -18,6 +21,9 @@ ghost use Rattle.tabled_settings.specs.PiecePlaces.{IsGluedBack, all_pieces, cou
 ghost use Rattle.tabled_settings.specs.Pieces.{split};
 ghost use Rattle.tabled_grid.specs.Fitting.{Fits};
 ghost use Rattle.tabled_grid.specs.Spans.{SpanMap};
+ghost use Rattle.tabled_settings.specs.InOrder.{AreSorted, sorted_from};
+ghost use Rattle.tabled_settings.specs.Sorted.{text_order};
+ghost use Rattle.tabled_settings.specs.declared.sort.SortKeys.{SortKeys};
 ghost use Rattle.tabled_settings.specs.Rearranged.{IsHalfRotated, IsReversed, IsRotated, WithCells, kept_lines, reversed, rotated, spans_reversed, spans_rotated};
 ghost use Rattle.tabled_settings.specs.TakenOnce.{TakesEachOnce};
 
@@ -30,6 +36,7 @@ use crate::formatting::Charset;
 use crate::keep::Keep;
 use crate::reverse::Reverse;
 use crate::rotate::Rotate;
+use crate::sort::Sort;
 use crate::split::Split;
 use crate::width::Wrap;
 use std::alloc::{AllocError, Global};
@@ -257,6 +264,34 @@ where
     <L::IntoIter as IntoIterator>::IntoIter: Drop,
     T: Target,
     ensures table { KeepsFitting ⟦<Keep<L, T> as TableOption<R, SpannedConfig, D>>⟧ _keep.now }
+{}
+
+/// So do rows that are sorted.
+pub fn sorts_keep_merged_cells_fitting<R, D>(_sort: &Sort)
+where
+    R: Records + ExactRecords + PeekableRecords + Resizable,
+    R::Cell: CellText,
+    ensures table { KeepsFitting ⟦<Sort as TableOption<R, SpannedConfig, D>>⟧ _sort.now }
+{}
+
+/// Rows that are sorted are the old ones, each once.
+pub fn sorted_rows_are_the_old_ones()
+    ensures { (from n : ℕ) (cmp : ℕ → ℕ → Ordering) → IsPermutation (range_with_len 0 n) (sorted_from from cmp n) }
+{}
+
+/// They are in order, whatever that is, but for the first ones, which stay; and equal ones keep their order.
+pub fn sorted_rows_are_in_order()
+    ensures { (from n : ℕ) (cmp : ℕ → ℕ → Ordering) → IsTotalOrder cmp → AreSorted from cmp n (sorted_from from cmp n) }
+{}
+
+/// What is sorted stays as it is.
+pub fn sorted_rows_stay()
+    ensures { (from n : ℕ) (cmp : ℕ → ℕ → Ordering) → IsTotalOrder cmp → AreSorted from cmp n (range_with_len 0 n) → sorted_from from cmp n ≡ range_with_len 0 n }
+{}
+
+/// Texts are in one order, also as numbers, and also the largest first.
+pub fn texts_are_in_one_order()
+    ensures { (keys : SortKeys) (descending : Bool) → IsTotalOrder (text_order keys descending) }
 {}
 
 /// So does a second table that is joined.

@@ -1,4 +1,4 @@
-use Rattle.tabled_settings.proofs.Common.{◌∙◌, ◌≡◌, ap, arith, map_grid, refl}
+use Rattle.tabled_settings.proofs.Common.{◌∙◌, ap, arith, map_grid, refl}
 use Rattle.std.specs.String.{string_bytes}
 use Rattle.tabled_settings.proofs.Joins.{join_done, join_undone}
 use Rattle.tabled_settings.proofs.concat.Joint.join.Goals as goal
