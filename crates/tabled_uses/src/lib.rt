@@ -3,6 +3,7 @@
 
 pub mod carried;
 pub mod csv;
+pub mod decimals;
 pub mod geometry;
 pub mod helping;
 pub mod language;

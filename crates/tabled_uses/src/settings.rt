@@ -12,6 +12,7 @@ use tabled_settings::format::Format;
 use tabled_settings::formatting::Charset;
 use tabled_settings::reverse::Reverse;
 use tabled_settings::rotate::Rotate;
+use tabled_settings::sort::Sort;
 use tabled_settings::split::Split;
 use tabled_settings::width::Width;
 use tabled_table::{Table, TextRef};
@@ -54,6 +55,11 @@ pub fn turns_and_cuts(alloc: Global, table: &mut Table) -> Result<(), AllocError
     table.with(alloc, Extract::segment(..9, 1..))?;
     table.with(alloc, Remove::row(Rows::new(1..3)))?;
     table.with(alloc, Remove::column(Columns::last()))
+}
+
+pub fn sorts(alloc: Global, table: &mut Table, column: String) -> Result<(), AllocError> {
+    table.with(alloc, Sort::rows(1).index(2).numbers().descending())?;
+    table.with(alloc, Sort::rows(1).name(column))
 }
 
 pub fn splits(alloc: Global, table: &mut Table) -> Result<(), AllocError> {

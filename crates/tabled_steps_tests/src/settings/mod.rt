@@ -7,6 +7,7 @@ mod merges;
 mod moves;
 mod odd;
 mod refused_writers;
+mod sorts;
 mod spans;
 mod tables;
 mod widths;

@@ -45,6 +45,22 @@ where
     is_word(made_flat(alloc, old, option), new)
 }
 
+/// Whether it makes that, or is refused and leaves the table as it was.
+pub(crate) fn makes_or_keeps<O>(alloc: Global, old: &str, option: O, new: &str) -> bool
+where
+    O: TableOption<Flat, SpannedConfig, ()> + Drop,
+    requires { O.can_change option }
+{
+    match made_flat(alloc, old, option) {
+        Ok(words) => match words.as_str().strip_suffix("!") {
+            Some(left) => left == old,
+            None => words.as_str() == new,
+        },
+        // Where the table itself is refused, there is nothing to compare.
+        Err(_) => true,
+    }
+}
+
 fn made_nested<O>(alloc: Global, old: &str, option: O) -> Result<String, AllocError>
 where
     O: TableOption<Nested, SpannedConfig, ()> + Drop,
