@@ -31,7 +31,7 @@ pub use form::Form;
 pub use help::{Telling, told_instead};
 pub use program::{answer, draw_script, run_script};
 pub use refusal::Refusal;
-pub use request::{CsvFile, Request};
+pub use request::{Format, Request, Source};
 pub use setting::Setting;
 pub use source::{Unread, read_whole};
 pub use tabled_steps::{Select, Step, run};
