@@ -11,7 +11,7 @@ ghost use Rattle.tabled_script.specs.declared.refusal.Refusal.TheVariants as ref
 
 use crate::form::Form;
 use crate::refusal::Refusal;
-use crate::request::{CsvFile, Request};
+use crate::request::{Format, Request, Source};
 use crate::setting::{Setting, alignments_of, separator_of};
 use std::alloc::{AllocError, Global};
 use std::marker::Model;
@@ -59,7 +59,7 @@ pub struct Arguments {
     width: Option<usize>,
     file: Option<String>,
     separator: Separator,
-    steps: Vec<u8>,
+    steps: Vec<Vec<String>>,
     tells_faults: bool,
     checks_steps: bool,
 }
@@ -124,7 +124,7 @@ impl Arguments {
         match self.next {
             Next::Value(setting) => self.set(alloc, setting, argument),
             Next::Option if argument.starts_with('-') => Ok(self.with_option(argument)),
-            Next::Option | Next::Verb | Next::Word => Ok(Some(self.with_word(argument)?)),
+            Next::Option | Next::Verb | Next::Word => Ok(Some(self.with_word(alloc, argument)?)),
         }
     }
 
@@ -200,20 +200,20 @@ impl Arguments {
     }
 
     /// Adds a word to the steps, or ends one.
-    fn with_word(mut self, word: &str) -> Result<Self, AllocError>
+    fn with_word(mut self, alloc: Global, word: &str) -> Result<Self, AllocError>
         ensures { IfOk result (λ after. after ≡ with_word word.now self) }
     {
         if word == "then" {
-            if self.next == Next::Word {
-                self.steps.push(b'\n')?;
-            }
             self.next = Next::Verb;
             return Ok(self);
         }
-        if self.next == Next::Word {
-            self.steps.push(b'\t')?;
+        let text = String::from_str(alloc, word)?;
+        if self.next != Next::Word {
+            self.steps.push(Vec::new(alloc))?;
         }
-        push_escaped(&mut self.steps, word.as_bytes())?;
+        if let Some(step) = self.steps.last_mut() {
+            step.push(text)?;
+        }
         self.next = Next::Word;
         Ok(self)
     }
@@ -231,7 +231,7 @@ impl Arguments {
             file,
             separator,
             steps,
-            tells_faults,
+            tells_faults: _,
             checks_steps,
         } = self;
         if let Next::Value(_) = next {
@@ -249,16 +249,15 @@ impl Arguments {
                 },
                 Written::Csv => Form::Csv(separator),
             },
-            file: match file {
-                Some(name) => Some(CsvFile {
+            sources: match file {
+                Some(name) => vec![in alloc; Source {
                     name,
-                    separator,
+                    format: Format::Csv(separator),
                     bytes: Vec::new(alloc),
-                }),
-                None => None,
+                }]?,
+                None => Vec::new(alloc),
             },
             steps,
-            tells_faults,
             checks_steps,
         })
     }
@@ -284,27 +283,4 @@ fn drawn_named(name: &str) -> Option<Drawn>
     }
     let style = Style::named(name)?;
     Some(Drawn::Style(style))
-}
-
-/// Adds the word that stands for the bytes of a text.
-fn push_escaped(line: &mut Vec<u8>, text: &[u8]) -> Result<(), AllocError>
-    ensures { OnOk result (line.new.items ≡ line.old.items ++ escaped text.now) }
-{
-    for byte in text {
-        push_escaped_byte(line, *byte)?;
-    }
-    Ok(())
-}
-
-/// Adds a byte as it stands in a word.
-fn push_escaped_byte(line: &mut Vec<u8>, byte: u8) -> Result<(), AllocError>
-    ensures { OnOk result (line.new.items ≡ line.old.items ++ escaped_byte byte) }
-{
-    match byte {
-        b'\t' => line.extend_from_slice(b"\\t")?,
-        b'\n' => line.extend_from_slice(b"\\n")?,
-        b'\\' => line.extend_from_slice(b"\\\\")?,
-        _ => line.push(byte)?,
-    }
-    Ok(())
 }

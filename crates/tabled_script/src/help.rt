@@ -1,7 +1,8 @@
 //! What is told in place of a table: what the program can do, its words, and its faults.
 
+use crate::outcome::{DONE, FAILED};
+use crate::program::write_whole;
 use crate::refusal::REFUSED;
-use crate::respond::{DONE, FAILED, write_whole};
 use crate::telling::tell_status;
 use std::alloc::{AllocError, Global};
 use std::io::Write;

@@ -6,7 +6,8 @@ ghost use Rattle.std.specs.String.{string_bytes};
 ghost use Rattle.tabled_script.specs.Refusals.{EndsRefused, GetsFirst, refusal_line, refusal_text, status_of, value_line};
 ghost use Rattle.tabled_script.specs.declared.setting.Setting.TheVariants as setting;
 
-use crate::respond::{FAILED, OUT_OF_MEMORY, finish};
+use crate::outcome::{FAILED, OUT_OF_MEMORY, Outcome};
+use crate::program::end;
 use crate::setting::Setting;
 use std::alloc::{AllocError, AllocFailed, Global};
 use std::io::Write;
@@ -44,7 +45,7 @@ impl Refusal {
         ensures told { GetsFirst (E.contents errors.old) (E.contents errors.new) (refusal_line self) }
     {
         if let Refusal::OutOfMemory = self {
-            return finish(writer, Err(AllocError));
+            return end(alloc, Outcome::OutOfMemory, writer);
         }
         self.tell_line(alloc, errors);
         self.status()
