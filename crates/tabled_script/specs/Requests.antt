@@ -1,55 +1,152 @@
--- The request that arguments ask for.
-use Rattle.std.specs.Prelude.{◌≡◌, Bool, true, false, [], Option, None, Some}
+-- What arguments ask for, as a whole.
+use Rattle.std.specs.Prelude.{◌≡◌, ℕ, ◌&&◌, Bool, true, false, List, [], ◌∷◌, codes, length, ◌==◌, map, not, Option, None, Some}
+use Rattle.std.specs.List.{find}
+use Rattle.std.specs.Option.{option_and_then, option_map, option_or, unwrap_or}
 use Rattle.std.specs.String.{string_bytes}
 use Rattle.tabled_draw.specs.Styles.{ascii}
-use Rattle.tabled_script.specs.Arguments.{Asked}
-use Rattle.tabled_script.specs.declared.arguments.Drawn.TheVariants as drawn
+use Rattle.tabled_draw.specs.declared.alignment.Alignment.{Alignment}
+use Rattle.tabled_script.specs.Arguments.{Asked, is_set, step_ended}
 use Rattle.tabled_script.specs.declared.arguments.Next.{Next}
 use Rattle.tabled_script.specs.declared.arguments.Next.TheVariants as next
-use Rattle.tabled_script.specs.declared.arguments.Written.TheVariants as written
 use Rattle.tabled_script.specs.declared.form.Form.{Form}
 use Rattle.tabled_script.specs.declared.form.Form.TheVariants as form
-use Rattle.tabled_script.specs.declared.request.CsvFile.{CsvFile}
-use Rattle.tabled_script.specs.declared.request.Request.{Request}
+use Rattle.tabled_script.specs.declared.invocation.Invocation.{Invocation}
+use Rattle.tabled_script.specs.declared.refusal.Refusal.{Refusal}
+use Rattle.tabled_script.specs.declared.refusal.Refusal.TheVariants.{Contradictory, Misused, NoValue, NotText, OutOfMemory, Terminal, Unread}
+use Rattle.tabled_script.specs.declared.request.Format.{Format}
+use Rattle.tabled_script.specs.declared.request.Format.TheVariants as format
+use Rattle.tabled_script.specs.declared.request.Source.{Source}
+use Rattle.tabled_script.specs.declared.setting.Drawn.{Drawn}
+use Rattle.tabled_script.specs.declared.setting.Drawn.TheVariants as drawn
+use Rattle.tabled_script.specs.declared.setting.Kind.{Kind}
+use Rattle.tabled_script.specs.declared.setting.Kind.TheVariants as kind
+use Rattle.tabled_script.specs.declared.setting.Setting.{Setting}
+use Rattle.tabled_script.specs.declared.setting.Setting.TheVariants as setting
+use Rattle.tabled_script.specs.declared.setting.Written.{Written}
+use Rattle.tabled_script.specs.declared.setting.Written.TheVariants as written
 
--- no argument: the script, and its table as a script
+-- no argument: the script of standard input, and its table as a script
 abbrev pub nothing_asked : Asked
 nothing_asked = record {
   next = next.Option;
-  written = written.Script;
-  drawn = drawn.Style ascii;
-  alignments = [];
+  written = None;
+  draws = false;
+  drawn = None;
+  alignments = None;
   width = None;
-  file = None;
-  separator = 44;
+  columns = None;
+  sources = [];
+  separator = None;
+  to_separator = None;
+  script = None;
+  output = None;
+  reads_input = false;
   steps = [];
-  tells_faults = false;
+  step = [];
   checks_steps = false;
 }
 
--- the last option lacks its value
-abbrev pub lacks_value : Next → Bool
-lacks_value (next.Value setting) = true
-lacks_value other = false
+-- the settings that say what a table is written as, in the order in which they are named
+abbrev pub settings_of_forms : List Setting
+settings_of_forms = setting.Form ∷ setting.Style ∷ setting.Picture ∷ setting.Alignments ∷ setting.Width ∷ setting.ToSeparator ∷ []
 
--- a table is written in the form that is asked for
+-- the first of them that is set
+abbrev pub deciding : Asked → Option Setting
+deciding asked = find (λ s. is_set s asked) settings_of_forms
+
+-- what a table is written as where a setting decides it
+abbrev pub written_by : Option Setting → Option Written → Written
+written_by None how = written.Script
+written_by (Some setting.Form) how = unwrap_or how written.Script
+written_by (Some setting.ToSeparator) how = written.Csv
+written_by (Some other) how = written.Picture
+
+-- what the table is written as
+abbrev pub written_of : Asked → Written
+written_of asked = written_by (deciding asked) asked.written
+
+-- it is Markdown, which has the width that it has
+abbrev pub is_markdown : Option Drawn → Bool
+is_markdown (Some drawn.Markdown) = true
+is_markdown other = false
+
+-- what is written so may be asked for with a setting
+abbrev pub goes_with : Written → Option Drawn → Setting → Bool
+goes_with how drawn setting.Form = true
+goes_with written.Picture drawn setting.ToSeparator = false
+goes_with written.Picture drawn setting.Width = not (is_markdown drawn)
+goes_with written.Picture drawn other = true
+goes_with written.Csv drawn setting.ToSeparator = true
+goes_with how drawn other = false
+
+-- two settings that contradict each other
+abbrev pub contradiction : Asked → Option (Setting × Setting)
+contradiction asked =
+    option_and_then
+      (λ first. option_map (λ other. (first, other)) (find (λ s. is_set s asked && not (goes_with (written_of asked) asked.drawn s)) settings_of_forms))
+      (deciding asked)
+
+-- the setting whose value is lacking
+abbrev pub awaited : Next → Option Setting
+awaited (next.Value setting) = Some setting
+awaited other = None
+
+-- what is asked for lacks a value, or contradicts itself, or there is no memory for it
+abbrev pub IsUnmade : Asked → Refusal → Type 0
+IsUnmade asked (NoValue setting) = awaited asked.next ≡ Some setting
+IsUnmade asked (Contradictory first other) = contradiction asked ≡ Some (first, other)
+IsUnmade asked OutOfMemory = Unit {0}
+IsUnmade asked (Misused misuse text) = ⊥
+IsUnmade asked NotText = ⊥
+IsUnmade asked Terminal = ⊥
+IsUnmade asked (Unread name failure) = ⊥
+
+-- what a picture is drawn in: the style ascii, unless another one is asked for
+abbrev pub drawn_of : Asked → Drawn
+drawn_of asked = unwrap_or asked.drawn (drawn.Style ascii)
+
+-- how many columns a picture has at most: those that are asked for, or those of the terminal
+abbrev pub width_of : Asked → Option ℕ
+width_of asked = option_or asked.width asked.columns
+
+-- what parts the fields of the files that are read
+abbrev pub separator_of : Asked → ℕ
+separator_of asked = unwrap_or asked.separator 44
+
+-- the form of what a table is written as, drawn in, how wide, how aligned, and parted by what
+abbrev pub IsForm : Written → Drawn → Option ℕ → List Alignment → ℕ → Form → Type 0
+IsForm how drawn width alignments separator form.Script = how ≡ written.Script
+IsForm how drawn width alignments separator (form.Picture style aligned) = (how ≡ written.Picture) × (drawn ≡ drawn.Style style) × (width ≡ None) × (alignments ≡ aligned.items)
+IsForm how drawn width alignments separator (form.NarrowPicture columns style aligned) =
+    (how ≡ written.Picture) × (drawn ≡ drawn.Style style) × (width ≡ Some columns) × (alignments ≡ aligned.items)
+IsForm how drawn width alignments separator (form.Markdown aligned) = (how ≡ written.Picture) × (drawn ≡ drawn.Markdown) × (alignments ≡ aligned.items)
+IsForm how drawn width alignments separator (form.Csv byte) = (how ≡ written.Csv) × (separator ≡ byte)
+
+-- the table is written in the form that is asked for
 abbrev pub AsksForm : Asked → Form → Type 0
-AsksForm asked form.Script = asked.written ≡ written.Script
-AsksForm asked (form.Picture style alignments) = (asked.written ≡ written.Picture) × (asked.drawn ≡ drawn.Style style) × (asked.width ≡ None) × (asked.alignments ≡ alignments.items)
-AsksForm asked (form.NarrowPicture width style alignments) = (asked.written ≡ written.Picture) × (asked.drawn ≡ drawn.Style style) × (asked.width ≡ Some width) × (asked.alignments ≡ alignments.items)
-AsksForm asked (form.Markdown alignments) = (asked.written ≡ written.Picture) × (asked.drawn ≡ drawn.Markdown) × (asked.alignments ≡ alignments.items)
-AsksForm asked (form.Csv separator) = (asked.written ≡ written.Csv) × (asked.separator ≡ separator)
+AsksForm asked form =
+    IsForm (written_of asked) (drawn_of asked) (width_of asked) (unwrap_or asked.alignments []) (unwrap_or asked.to_separator (separator_of asked)) form
 
--- the file that is asked for, if any, and nothing of its bytes
-abbrev pub AsksFile : Asked → Option CsvFile → Type 0
-AsksFile asked None = asked.file ≡ None
-AsksFile asked (Some file) = (asked.file ≡ Some (string_bytes file.name)) × (asked.separator ≡ file.separator) × (file.bytes.items ≡ [])
+-- how the rows of a file are read
+abbrev pub format_of : ℕ → Kind → Format
+format_of separator kind.Csv = format.Csv separator
 
--- a request is what is asked for, and no value is lacking
-pub record IsAsked (asked : Asked) (request : Request) : Type 0 where
-  pub whole : lacks_value asked.next ≡ false
-  pub form : AsksForm asked request.form
-  pub file : AsksFile asked request.file
-  pub steps : request.steps.items ≡ asked.steps
-  pub tells_faults : request.tells_faults ≡ asked.tells_faults
-  pub checks_steps : request.checks_steps ≡ asked.checks_steps
+-- a source as it is asked for: its format, its name, and nothing of its bytes
+abbrev pub named_source : Source → Format × (List ℕ × List ℕ)
+named_source source = (source.format, (string_bytes source.name, source.bytes.items))
+
+-- the file of the script: the one that is asked for, or standard input where there is no file of rows
+abbrev pub script_of : Option (List ℕ) → Bool → Option (List ℕ)
+script_of None true = Some (codes "-")
+script_of script is_alone = script
+
+-- an invocation is what is asked for, and nothing of the bytes of its files
+pub record IsAsked (asked : Asked) (invocation : Invocation) : Type 0 where
+  pub whole : awaited asked.next ≡ None
+  pub agrees : contradiction asked ≡ None
+  pub form : AsksForm asked invocation.request.form
+  pub sources : map named_source invocation.request.sources.items ≡ map (λ file. (format_of (separator_of asked) file.0, (file.1, []))) asked.sources
+  pub steps : map (λ words. map string_bytes words.items) invocation.request.steps.items ≡ (step_ended asked).steps
+  pub checks_steps : invocation.request.checks_steps ≡ asked.checks_steps
+  pub script : option_map string_bytes invocation.script ≡ script_of asked.script (length asked.sources == 0)
+  pub output : option_map string_bytes invocation.output ≡ asked.output

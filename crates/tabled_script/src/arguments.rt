@@ -1,50 +1,33 @@
 //! The arguments of the program: options, and then steps.
 
 ghost use Rattle.std.specs.Option.{option_map};
-ghost use Rattle.std.specs.Prelude.{◌≡◌, ◌++◌, ◌⊎◌, IfErr, IfOk, IsTrue, MatchResult, OnOk};
-ghost use Rattle.tabled_language.specs.Output.{escaped, escaped_byte};
-ghost use Rattle.tabled_script.specs.Arguments.{drawn_named, expect, named_in, options, set_to, taken, with_word};
-ghost use Rattle.tabled_script.specs.Refusals.{Refuses, refusal_of};
-ghost use Rattle.tabled_script.specs.Requests.{IsAsked, lacks_value, nothing_asked};
-ghost use Rattle.tabled_script.specs.declared.arguments.Next.TheVariants as next;
-ghost use Rattle.tabled_script.specs.declared.refusal.Refusal.TheVariants as refusal;
+ghost use Rattle.std.specs.Prelude.{◌≡◌, IfOk, OnOk};
+ghost use Rattle.std.specs.String.{string_bytes};
+ghost use Rattle.tabled_script.specs.Arguments.{file_named, has_taken, is_input, is_set, names_input, set_to, step_ended, taken, with_dashed, with_option, with_option_and_value, with_value, with_word};
+ghost use Rattle.tabled_script.specs.Refusals.{IsRefused, Takes};
+ghost use Rattle.tabled_script.specs.Requests.{nothing_asked};
+ghost use Rattle.tabled_script.specs.Settings.{named_in, options};
 
-use crate::form::Form;
-use crate::refusal::Refusal;
-use crate::request::{Format, Request, Source};
-use crate::setting::{Setting, alignments_of, separator_of};
+use crate::refusal::{Misuse, Refusal};
+use crate::setting::{
+    Drawn, Kind, Setting, Written, alignments_of, drawn_named, read_by, separator_of, written_named,
+};
 use std::alloc::{AllocError, Global};
 use std::marker::Model;
+use std::mem;
 use tabled_csv::Separator;
-use tabled_draw::{Alignment, Style};
+use tabled_draw::Alignment;
 use tabled_language::length_of;
 
 /// What an argument is, by those before it.
 #[derive(Clone, Copy, PartialEq, Eq)]
-enum Next {
-    /// An option, or the verb of the first step.
+pub(crate) enum Next {
+    /// An option, or the first word of the first step.
     Option,
     /// The value of the option before it.
     Value(Setting),
-    /// The verb of a step.
-    Verb,
-    /// A further word of a step, or `then`, which ends it.
+    /// A word of a step, or `then`, which ends it.
     Word,
-}
-
-/// What a table is written as.
-#[derive(Clone, Copy, PartialEq, Eq)]
-enum Written {
-    Script,
-    Picture,
-    Csv,
-}
-
-/// What a picture is drawn in.
-#[derive(Clone, Copy)]
-enum Drawn {
-    Style(Style),
-    Markdown,
 }
 
 /// The arguments that were taken so far. A contract sees them as what they ask for.
@@ -52,20 +35,30 @@ enum Drawn {
 /// Of this project.
 #[derive(Drop)]
 pub struct Arguments {
-    next: Next,
-    written: Written,
-    drawn: Drawn,
-    alignments: Vec<Alignment>,
-    width: Option<usize>,
-    file: Option<String>,
-    separator: Separator,
-    steps: Vec<Vec<String>>,
-    tells_faults: bool,
-    checks_steps: bool,
+    pub(crate) next: Next,
+    pub(crate) written: Option<Written>,
+    pub(crate) draws: bool,
+    pub(crate) drawn: Option<Drawn>,
+    pub(crate) alignments: Option<Vec<Alignment>>,
+    pub(crate) width: Option<usize>,
+    pub(crate) columns: Option<usize>,
+    pub(crate) sources: Vec<(Kind, String)>,
+    pub(crate) separator: Option<Separator>,
+    pub(crate) to_separator: Option<Separator>,
+    pub(crate) script: Option<String>,
+    pub(crate) output: Option<String>,
+    /// Whether standard input is one of the files that are read.
+    pub(crate) reads_input: bool,
+    /// The steps that ended.
+    pub(crate) steps: Vec<Vec<String>>,
+    /// The words of the step that has not ended.
+    pub(crate) step: Vec<String>,
+    pub(crate) checks_steps: bool,
 }
 
 impl Model for Arguments {
     ghost use Rattle.std.specs.Option.{option_map};
+    ghost use Rattle.std.specs.Prelude.{map};
     ghost use Rattle.std.specs.String.{string_bytes};
     ghost use Rattle.tabled_script.specs.Arguments.{Asked};
 
@@ -74,213 +67,248 @@ impl Model for Arguments {
     ghost view = { λ a. record {
       next = a.next;
       written = a.written;
+      draws = a.draws;
       drawn = a.drawn;
-      alignments = a.alignments.items;
+      alignments = option_map (λ list. list.items) a.alignments;
       width = a.width;
-      file = option_map string_bytes a.file;
+      columns = a.columns;
+      sources = map (λ source. (source.0, string_bytes source.1)) a.sources.items;
       separator = a.separator;
-      steps = a.steps.items;
-      tells_faults = a.tells_faults;
+      to_separator = a.to_separator;
+      script = option_map string_bytes a.script;
+      output = option_map string_bytes a.output;
+      reads_input = a.reads_input;
+      steps = map (λ words. map string_bytes words.items) a.steps.items;
+      step = map string_bytes a.step.items;
       checks_steps = a.checks_steps;
     } };
 }
 
 impl Arguments {
-    /// No argument, which asks for the script and its table as a script.
+    /// No argument, which asks for the script of standard input, and its table as a script.
     pub fn new(alloc: Global) -> Self
         ensures { result ≡ nothing_asked }
     {
         Arguments {
             next: Next::Option,
-            written: Written::Script,
-            drawn: Drawn::Style(Style::ascii()),
-            alignments: Vec::new(alloc),
+            written: None,
+            draws: false,
+            drawn: None,
+            alignments: None,
             width: None,
-            file: None,
-            separator: Separator::comma(),
+            columns: None,
+            sources: Vec::new(alloc),
+            separator: None,
+            to_separator: None,
+            script: None,
+            output: None,
+            reads_input: false,
             steps: Vec::new(alloc),
-            tells_faults: false,
+            step: Vec::new(alloc),
             checks_steps: false,
         }
     }
 
-    /// Takes an argument behind those before it. It may ask for nothing: an option that there isn't, or a value that an
-    /// option can't have.
+    /// Takes an argument behind those before it. It is refused where it, or the part of it that the refusal names, asks
+    /// for nothing.
     pub fn take(self, alloc: Global, argument: &str) -> Result<Self, Refusal>
-        ensures taken { IfOk result (λ after. taken argument.now self ≡ Some after) }
-        ensures refused { IfErr result (λ refused. (refused ≡ refusal.OutOfMemory) ⊎ ((taken argument.now self ≡ None) × Refuses argument.now self.next refused)) }
-    {
-        let next = self.next;
-        match self.taken(alloc, argument)? {
-            Some(after) => Ok(after),
-            None => Err(refusal_of(next, String::from_str(alloc, argument)?)),
-        }
-    }
-
-    /// What is asked for once an argument is taken, if it asks for something.
-    fn taken(self, alloc: Global, argument: &str) -> Result<Option<Self>, AllocError>
-        ensures { IfOk result (λ after. after ≡ taken argument.now self) }
+        ensures { Takes (taken argument.now self) result }
     {
         match self.next {
-            Next::Value(setting) => self.set(alloc, setting, argument),
-            Next::Option if argument.starts_with('-') => Ok(self.with_option(argument)),
-            Next::Option | Next::Verb | Next::Word => Ok(Some(self.with_word(alloc, argument)?)),
+            Next::Option if argument.starts_with('-') => self.with_dashed(alloc, argument),
+            Next::Option | Next::Word => self.with_word(alloc, argument),
+            Next::Value(setting) => self.with_value(alloc, setting, argument),
         }
     }
 
-    /// Sets what an option sets to its value, if it can have that.
-    fn set(
+    /// Takes what begins with a minus: an option, maybe with its value, or `--`, which ends the options.
+    fn with_dashed(mut self, alloc: Global, argument: &str) -> Result<Self, Refusal>
+        ensures { Takes (with_dashed argument.now self) result }
+    {
+        if argument == "--" {
+            self.next = Next::Word;
+            return Ok(self);
+        }
+        match argument.split_once('=') {
+            Some((option, value)) => self.with_option_and_value(alloc, option, value),
+            None => self.with_option(alloc, argument),
+        }
+    }
+
+    /// Takes an option by itself.
+    fn with_option(mut self, alloc: Global, option: &str) -> Result<Self, Refusal>
+        ensures { Takes (with_option (named_in options option.now) option.now self) result }
+    {
+        match Setting::named(option) {
+            None => Err(misused(alloc, Misuse::NoOption, option)),
+            Some(Setting::Picture) => {
+                self.draws = true;
+                Ok(self)
+            }
+            Some(Setting::Checks) => {
+                self.checks_steps = true;
+                Ok(self)
+            }
+            Some(setting) => {
+                self.next = Next::Value(setting);
+                Ok(self)
+            }
+        }
+    }
+
+    /// Takes an option with its value.
+    fn with_option_and_value(
+        self,
+        alloc: Global,
+        option: &str,
+        value: &str,
+    ) -> Result<Self, Refusal>
+        ensures { Takes (with_option_and_value (named_in options option.now) option.now value.now self) result }
+    {
+        match Setting::named(option) {
+            None => Err(misused(alloc, Misuse::NoOption, option)),
+            Some(setting) if setting.takes_value() => self.with_value(alloc, setting, value),
+            Some(setting) => Err(misused(alloc, Misuse::NeedlessValue(setting), value)),
+        }
+    }
+
+    /// Sets a setting to a value, if it can have that and has none, and standard input is not read already.
+    fn with_value(
         mut self,
         alloc: Global,
         setting: Setting,
         value: &str,
-    ) -> Result<Option<Self>, AllocError>
-        ensures { IfOk result (λ after. after ≡ option_map (λ change. expect next.Option (change self)) (set_to setting value.now)) }
+    ) -> Result<Self, Refusal>
+        ensures { Takes (with_value setting value.now self) result }
     {
-        match setting {
-            Setting::Style => {
-                let Some(drawn) = drawn_named(value) else {
-                    return Ok(None);
-                };
-                self.drawn = drawn;
-            }
-            Setting::Alignments => {
-                let Some(alignments) = alignments_of(alloc, value.as_bytes())? else {
-                    return Ok(None);
-                };
-                self.alignments = alignments;
-            }
-            Setting::Width => {
-                let Some(width) = length_of(value) else {
-                    return Ok(None);
-                };
-                self.width = Some(width);
-            }
-            Setting::File => self.file = Some(String::from_str(alloc, value)?),
-            Setting::Separator => {
-                let Some(separator) = separator_of(value) else {
-                    return Ok(None);
-                };
-                self.separator = separator;
-            }
-            Setting::Form => {
-                if value != "csv" {
-                    return Ok(None);
-                }
-                self.written = Written::Csv;
-            }
+        if self.is_set(setting) {
+            return Err(misused(alloc, Misuse::Repeated(setting), value));
+        }
+        if self.reads_input && names_input(setting) && is_input(value) {
+            return Err(misused(alloc, Misuse::InputRepeated, value));
+        }
+        self.set(alloc, setting, value)?;
+        if !self.has_taken(setting, value) {
+            return Err(misused(alloc, Misuse::WrongValue(setting), value));
         }
         self.next = Next::Option;
-        Ok(Some(self))
+        Ok(self)
     }
 
-    /// What an option asks for, if there is such an option.
-    fn with_option(mut self, option: &str) -> Option<Self>
-        ensures { result ≡ option_map (λ change. change self) (named_in options option.now) }
+    /// Sets a setting to what a value means.
+    fn set(&mut self, alloc: Global, setting: Setting, value: &str) -> Result<(), AllocError>
+        ensures { OnOk result (self.new ≡ set_to setting value.now self.old) }
     {
-        match option {
-            "--draw" => self.written = Written::Picture,
-            "--check" => self.checks_steps = true,
-            "--tell" => self.tells_faults = true,
-            "--style" => {
-                self.written = Written::Picture;
-                self.next = Next::Value(Setting::Style);
+        match setting {
+            Setting::Form => self.written = written_named(value),
+            Setting::Style => self.drawn = drawn_named(value),
+            Setting::Alignments => self.alignments = alignments_of(alloc, value.as_bytes())?,
+            Setting::Width => self.width = length_of(value),
+            Setting::Columns => self.columns = length_of(value),
+            Setting::Separator => self.separator = separator_of(value),
+            Setting::ToSeparator => self.to_separator = separator_of(value),
+            Setting::Output => self.output = file_named(alloc, value)?,
+            Setting::Script => {
+                self.script = file_named(alloc, value)?;
+                self.reads_input = self.reads_input || is_input(value);
             }
-            "--align" => {
-                self.written = Written::Picture;
-                self.next = Next::Value(Setting::Alignments);
+            Setting::Rows(kind) => {
+                self.sources.push((kind, String::from_str(alloc, value)?))?;
+                self.reads_input = self.reads_input || is_input(value);
             }
-            "--width" => self.next = Next::Value(Setting::Width),
-            "--csv" => self.next = Next::Value(Setting::File),
-            "--separator" => self.next = Next::Value(Setting::Separator),
-            "--to" => self.next = Next::Value(Setting::Form),
-            _ => return None,
+            Setting::Picture | Setting::Checks => {}
         }
-        Some(self)
+        Ok(())
+    }
+
+    /// Says whether a value was one that a setting can have.
+    fn has_taken(&self, setting: Setting, value: &str) -> bool
+        ensures { result ≡ has_taken setting value.now self.now }
+    {
+        match setting {
+            Setting::Rows(_) => !value.is_empty(),
+            _ => self.is_set(setting),
+        }
+    }
+
+    /// Says whether a setting has its value.
+    pub(crate) fn is_set(&self, setting: Setting) -> bool
+        ensures { result ≡ is_set setting self.now }
+    {
+        match setting {
+            Setting::Form => self.written.is_some(),
+            Setting::Picture => self.draws,
+            Setting::Style => self.drawn.is_some(),
+            Setting::Alignments => self.alignments.is_some(),
+            Setting::Width => self.width.is_some(),
+            Setting::Columns => self.columns.is_some(),
+            Setting::Rows(_) => false,
+            Setting::Separator => self.separator.is_some(),
+            Setting::ToSeparator => self.to_separator.is_some(),
+            Setting::Script => self.script.is_some(),
+            Setting::Output => self.output.is_some(),
+            Setting::Checks => self.checks_steps,
+        }
     }
 
     /// Adds a word to the steps, or ends one.
-    fn with_word(mut self, alloc: Global, word: &str) -> Result<Self, AllocError>
-        ensures { IfOk result (λ after. after ≡ with_word word.now self) }
+    fn with_word(mut self, alloc: Global, word: &str) -> Result<Self, Refusal>
+        ensures { Takes (with_word word.now self) result }
     {
         if word == "then" {
-            self.next = Next::Verb;
-            return Ok(self);
-        }
-        let text = String::from_str(alloc, word)?;
-        if self.next != Next::Word {
-            self.steps.push(Vec::new(alloc))?;
-        }
-        if let Some(step) = self.steps.last_mut() {
-            step.push(text)?;
+            self.end_step(alloc)?;
+        } else {
+            if self.step.is_empty() && read_by(word).is_some() {
+                return Err(misused(alloc, Misuse::FileAsStep, word));
+            }
+            self.step.push(String::from_str(alloc, word)?)?;
         }
         self.next = Next::Word;
         Ok(self)
     }
 
-    /// What was asked for. The bytes of a file are not read yet. It is refused where the last option lacks its value.
-    pub fn into_request(self, alloc: Global) -> Result<Request, Refusal>
-        ensures { MatchResult result (IsAsked self) (λ refused. (refused ≡ refusal.NoValue) × IsTrue (lacks_value self.next)) }
+    /// Ends the step that has not ended, if it has words.
+    pub(crate) fn end_step(&mut self, alloc: Global) -> Result<(), AllocError>
+        ensures { OnOk result (self.new ≡ step_ended self.old) }
     {
-        let Arguments {
-            next,
-            written,
-            drawn,
-            alignments,
-            width,
-            file,
-            separator,
-            steps,
-            tells_faults: _,
-            checks_steps,
-        } = self;
-        if let Next::Value(_) = next {
-            return Err(Refusal::NoValue);
+        if !self.step.is_empty() {
+            let step = mem::replace(&mut self.step, Vec::new(alloc));
+            self.steps.push(step)?;
         }
-        Ok(Request {
-            form: match written {
-                Written::Script => Form::Script,
-                Written::Picture => match (drawn, width) {
-                    (Drawn::Style(style), Some(width)) => {
-                        Form::NarrowPicture(width, style, alignments)
-                    }
-                    (Drawn::Style(style), None) => Form::Picture(style, alignments),
-                    (Drawn::Markdown, _) => Form::Markdown(alignments),
-                },
-                Written::Csv => Form::Csv(separator),
-            },
-            sources: match file {
-                Some(name) => vec![in alloc; Source {
-                    name,
-                    format: Format::Csv(separator),
-                    bytes: Vec::new(alloc),
-                }]?,
-                None => Vec::new(alloc),
-            },
-            steps,
-            checks_steps,
-        })
+        Ok(())
     }
 }
 
-/// The refusal of an argument, by what it was to be.
-fn refusal_of(next: Next, argument: String) -> Refusal
-    ensures { result ≡ refusal_of next argument }
+/// The refusal of an argument, or of a part of it.
+fn misused(alloc: Global, misuse: Misuse, argument: &str) -> Refusal
+    ensures { IsRefused (misuse, argument.now) result }
 {
-    match next {
-        Next::Value(setting) => Refusal::WrongValue(setting, argument),
-        Next::Option | Next::Verb | Next::Word => Refusal::NoOption(argument),
+    match String::from_str(alloc, argument) {
+        Ok(text) => Refusal::Misused(misuse, text),
+        Err(_) => Refusal::OutOfMemory,
     }
 }
 
-/// What a picture is drawn in by a name.
-fn drawn_named(name: &str) -> Option<Drawn>
-    ensures { result ≡ drawn_named name.now }
+/// Says whether the value of a setting names a file that is read.
+fn names_input(setting: Setting) -> bool
+    ensures { result ≡ names_input setting }
 {
-    // As Markdown a table has to be escaped, and not only drawn.
-    if name == "markdown" {
-        return Some(Drawn::Markdown);
+    matches!(setting, Setting::Rows(_) | Setting::Script)
+}
+
+/// Says whether the file of a name is standard input.
+fn is_input(name: &str) -> bool
+    ensures { result ≡ is_input name.now }
+{
+    name == "-"
+}
+
+/// The name of a file, if it is one.
+fn file_named(alloc: Global, name: &str) -> Result<Option<String>, AllocError>
+    ensures { IfOk result (λ file. option_map string_bytes file ≡ file_named name.now) }
+{
+    if name.is_empty() {
+        return Ok(None);
     }
-    let style = Style::named(name)?;
-    Some(Drawn::Style(style))
+    Ok(Some(String::from_str(alloc, name)?))
 }

@@ -1,0 +1,202 @@
+//! What the arguments ask for, as a whole.
+
+ghost use Rattle.std.specs.List.{find};
+ghost use Rattle.std.specs.Option.{option_map};
+ghost use Rattle.std.specs.Prelude.{◌≡◌, ◌&&◌, [], IfOk, MatchResult, map, not};
+ghost use Rattle.std.specs.String.{string_bytes};
+ghost use Rattle.tabled_script.specs.Arguments.{is_set};
+ghost use Rattle.tabled_script.specs.Requests.{IsAsked, IsForm, IsUnmade, contradiction, deciding, format_of, goes_with, named_source, script_of, settings_of_forms, written_of};
+ghost use Rattle.tabled_script.specs.declared.setting.Written.TheVariants as written;
+
+use crate::arguments::{Arguments, Next};
+use crate::form::Form;
+use crate::refusal::Refusal;
+use crate::request::{Format, Request, Source};
+use crate::setting::{Drawn, Kind, Setting, Written};
+use std::alloc::{AllocError, Global};
+use tabled_csv::Separator;
+use tabled_draw::{Alignment, Style};
+
+/// What the arguments ask for.
+///
+/// Of this project.
+#[derive(Drop)]
+pub struct Invocation {
+    /// What is asked of `answer`, without the bytes of its sources.
+    pub request: Request,
+    /// The file of the script, if there is one: `-` for standard input.
+    pub script: Option<String>,
+    /// The file that the table is written to, in place of standard output.
+    pub output: Option<String>,
+}
+
+/// The settings that say what a table is written as, in the order in which they are named.
+const SETTINGS_OF_FORMS: [Setting; 6] = [
+    Setting::Form,
+    Setting::Style,
+    Setting::Picture,
+    Setting::Alignments,
+    Setting::Width,
+    Setting::ToSeparator,
+];
+
+impl Arguments {
+    /// What was asked for. The bytes of files are not read yet. It is refused where the last option lacks its value, or two
+    /// contradict each other.
+    pub fn into_invocation(mut self, alloc: Global) -> Result<Invocation, Refusal>
+        ensures { MatchResult result (IsAsked self) (IsUnmade self) }
+    {
+        if let Next::Value(setting) = self.next {
+            return Err(Refusal::NoValue(setting));
+        }
+        if let Some((first, other)) = self.contradiction() {
+            return Err(Refusal::Contradictory(first, other));
+        }
+        self.end_step(alloc)?;
+        let written = self.written();
+        let Arguments {
+            drawn,
+            alignments,
+            width,
+            columns,
+            sources,
+            separator,
+            to_separator,
+            script,
+            output,
+            steps,
+            checks_steps,
+            ..
+        } = self;
+        let separator = separator.unwrap_or(Separator::comma());
+        let script = script_of(alloc, script, sources.is_empty())?;
+        let form = match written {
+            Written::Script => Form::Script,
+            Written::Csv => Form::Csv(to_separator.unwrap_or(separator)),
+            Written::Picture => picture(
+                drawn.unwrap_or(Drawn::Style(Style::ascii())),
+                width.or(columns),
+                alignments.unwrap_or(Vec::new(alloc)),
+            ),
+        };
+        Ok(Invocation {
+            request: Request {
+                form,
+                sources: unread(alloc, sources, separator)?,
+                steps,
+                checks_steps,
+            },
+            script,
+            output,
+        })
+    }
+
+    /// What the table is written as.
+    fn written(&self) -> Written
+        ensures { result ≡ written_of self.now }
+    {
+        match self.deciding() {
+            None => Written::Script,
+            Some(Setting::Form) => self.written.unwrap_or(Written::Script),
+            Some(Setting::ToSeparator) => Written::Csv,
+            Some(_) => Written::Picture,
+        }
+    }
+
+    /// The setting that says what the table is written as, if there is one.
+    fn deciding(&self) -> Option<Setting>
+        ensures { result ≡ deciding self.now }
+    {
+        SETTINGS_OF_FORMS
+            .iter()
+            .copied()
+            .find(|setting| self.is_set(*setting))
+    }
+
+    /// Two settings that contradict each other, if there are any.
+    fn contradiction(&self) -> Option<(Setting, Setting)>
+        ensures { result ≡ contradiction self.now }
+    {
+        let first = self.deciding()?;
+        let other = self.misfit(self.written())?;
+        Some((first, other))
+    }
+
+    /// The first setting that doesn't go with what is written so.
+    fn misfit(&self, written: Written) -> Option<Setting>
+        ensures { result ≡ find (λ s. is_set s self.now && not (goes_with written self.now.drawn s)) settings_of_forms }
+    {
+        SETTINGS_OF_FORMS
+            .iter()
+            .copied()
+            .find(|setting| self.is_set(*setting) && !goes_with(written, self.drawn, *setting))
+    }
+}
+
+/// Says whether what is written so may be asked for with a setting.
+fn goes_with(written: Written, drawn: Option<Drawn>, setting: Setting) -> bool
+    ensures { result ≡ goes_with written drawn setting }
+{
+    match (written, setting) {
+        (_, Setting::Form) => true,
+        (Written::Picture, Setting::ToSeparator) => false,
+        // Markdown has the width that it has.
+        (Written::Picture, Setting::Width) => !matches!(drawn, Some(Drawn::Markdown)),
+        (Written::Picture, _) => true,
+        (Written::Csv, Setting::ToSeparator) => true,
+        _ => false,
+    }
+}
+
+/// A picture in what it is drawn in.
+fn picture(drawn: Drawn, width: Option<usize>, alignments: Vec<Alignment>) -> Form
+    ensures { IsForm written.Picture drawn width alignments.items 0 result }
+{
+    match (drawn, width) {
+        (Drawn::Style(style), Some(width)) => Form::NarrowPicture(width, style, alignments),
+        (Drawn::Style(style), None) => Form::Picture(style, alignments),
+        (Drawn::Markdown, _) => Form::Markdown(alignments),
+    }
+}
+
+/// The file of the script: standard input where none is asked for, and there are no files of rows.
+fn script_of(
+    alloc: Global,
+    script: Option<String>,
+    is_alone: bool,
+) -> Result<Option<String>, AllocError>
+    ensures { IfOk result (λ file. option_map string_bytes file ≡ script_of (option_map string_bytes script) is_alone) }
+{
+    match script {
+        None if is_alone => Ok(Some(String::from_str(alloc, "-")?)),
+        _ => Ok(script),
+    }
+}
+
+/// The files of rows, of which no byte is read.
+fn unread(
+    alloc: Global,
+    files: Vec<(Kind, String)>,
+    separator: Separator,
+) -> Result<Vec<Source>, AllocError>
+    ensures { IfOk result (λ sources. map named_source sources.items ≡ map (λ file. (format_of separator file.0, (string_bytes file.1, []))) files.items) }
+{
+    let mut sources = Vec::new(alloc);
+    for (kind, name) in files {
+        sources.push(Source {
+            name,
+            format: format_of(kind, separator),
+            bytes: Vec::new(alloc),
+        })?;
+    }
+    Ok(sources)
+}
+
+/// How the rows of a file are read.
+fn format_of(kind: Kind, separator: Separator) -> Format
+    ensures { result ≡ format_of separator kind }
+{
+    match kind {
+        Kind::Csv => Format::Csv(separator),
+    }
+}
