@@ -9,4 +9,5 @@ pub mod Narrow
 pub mod Outcome
 pub mod Refusals
 pub mod Requests
+pub mod Settings
 pub mod Status

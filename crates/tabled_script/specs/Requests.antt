@@ -12,7 +12,7 @@ use Rattle.tabled_script.specs.declared.form.Form.{Form}
 use Rattle.tabled_script.specs.declared.form.Form.TheVariants as form
 use Rattle.tabled_script.specs.declared.invocation.Invocation.{Invocation}
 use Rattle.tabled_script.specs.declared.refusal.Refusal.{Refusal}
-use Rattle.tabled_script.specs.declared.refusal.Refusal.TheVariants.{Contradictory, Misused, NoValue, NotText, OutOfMemory, Terminal, Unread}
+use Rattle.tabled_script.specs.declared.refusal.Refusal.TheVariants.{Contradictory, Failed, Misused, NoValue, NotText, OutOfMemory, Terminal}
 use Rattle.tabled_script.specs.declared.request.Format.{Format}
 use Rattle.tabled_script.specs.declared.request.Format.TheVariants as format
 use Rattle.tabled_script.specs.declared.request.Source.{Source}
@@ -99,7 +99,7 @@ IsUnmade asked OutOfMemory = Unit {0}
 IsUnmade asked (Misused misuse text) = ⊥
 IsUnmade asked NotText = ⊥
 IsUnmade asked Terminal = ⊥
-IsUnmade asked (Unread name failure) = ⊥
+IsUnmade asked (Failed name failure) = ⊥
 
 -- what a picture is drawn in: the style ascii, unless another one is asked for
 abbrev pub drawn_of : Asked → Drawn

@@ -3,7 +3,6 @@
 use crate::outcome::{DONE, FAILED};
 use crate::program::write_whole;
 use crate::refusal::REFUSED;
-use crate::telling::tell_status;
 use std::alloc::{AllocError, Global};
 use std::io::Write;
 use tabled_help::{ENTRIES, FAULTS, HELP, WORDS, explained, nearest, said_of};
@@ -29,10 +28,7 @@ impl Telling {
         match self {
             Telling::Text(text) => match write_whole(writer, text.as_bytes()) {
                 Ok(()) => DONE,
-                Err(_) => {
-                    tell_status(FAILED, errors);
-                    FAILED
-                }
+                Err(_) => FAILED,
             },
             Telling::Nothing(why) => {
                 // Where it can't be told, the status says it.

@@ -78,7 +78,7 @@ pub fn draw_script<R: Read, W: Write>(alloc: Global, reader: &mut R, writer: &mu
 /// - 3: memory ran out, and nothing was written.
 /// - 4: writing failed, and nothing is said of what was written.
 ///
-/// Nothing is written but the table. What else there is to tell goes to `errors`, in a line or two each; where that can't
+/// Nothing is written but the table. What else there is to tell, but why writing failed, goes to `errors`, in a line or two each; where that can't
 /// be written, or memory runs out, the answer is the same. A fault is told as that of `line N` of the script, of `step N`
 /// of the request, or of a line of a file, with its likely cure and the words of the line; first rows that differ with
 /// both; a picture that can't be as narrow with the columns that it takes. Where steps are checked, `names nothing in the

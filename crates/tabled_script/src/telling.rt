@@ -119,7 +119,7 @@ impl ToldWords {
 }
 
 /// Tells of what comes of a script that isn't its table: where its first faulty line stands, the word at fault and the
-/// likely cure, and its words as they were read; or how many columns a picture takes; or of a status. Nothing is told
+/// likely cure, and its words as they were read; or how many columns a picture takes; or that memory ran out. Nothing is told
 /// where that can't be written, or memory runs out.
 pub(crate) fn tell_outcome<E: Write>(
     alloc: Global,
@@ -130,9 +130,9 @@ pub(crate) fn tell_outcome<E: Write>(
     match outcome {
         Outcome::Faulty(number, fault) => tell(fault_lines(alloc, lines, number, fault), errors),
         Outcome::TooNarrow(narrow) => narrow.tell(alloc, errors),
-        Outcome::Written | Outcome::OutOfMemory | Outcome::Failed => {
-            tell_status(outcome.status(), errors);
-        }
+        Outcome::OutOfMemory => tell_status(OUT_OF_MEMORY, errors),
+        // Who gives the writer knows why it failed.
+        Outcome::Written | Outcome::Failed => {}
     }
 }
 
@@ -167,7 +167,9 @@ pub(crate) fn tell_sources_error<E: Write>(
 }
 
 /// Tells of a status that memory ran out, or that reading or writing failed. Of others there is nothing to be told.
-pub(crate) fn tell_status<E: Write>(status: u8, errors: &mut E) {
+///
+/// Of this project.
+pub fn tell_status<E: Write>(status: u8, errors: &mut E) {
     let line: &[u8] = match status {
         OUT_OF_MEMORY => b"tabled_script: memory ran out\n",
         FAILED => b"tabled_script: reading or writing failed\n",
