@@ -13,8 +13,8 @@ fn request(alloc: Global, arguments: &str, file: &str) -> Result<Request, Refusa
         }
     }
     let mut request = taken.into_request(alloc)?;
-    if let Some(asked) = &mut request.file {
-        asked.bytes.extend_from_slice(file.as_bytes())?;
+    for source in &mut request.sources {
+        source.bytes.extend_from_slice(file.as_bytes())?;
     }
     Ok(request)
 }
@@ -156,15 +156,21 @@ fn arguments_ask_for_steps_and_forms(rt: HostRuntime) -> Result<(), Fail> {
             "+---+\n| a |\n+---+\n",
             "",
         ),
-        // Faults are told with the words of their lines, if that is asked for.
-        ("vmreg", "", "row\ta", 2, "line 2: fault 1\n", ""),
-        ("vmreg", "", "row\ta\n", 2, "line 2: fault 1\n", ""),
+        // Faults are told with the words of their lines, and nothing is written.
+        (
+            "vmreg",
+            "",
+            "row\ta",
+            2,
+            "",
+            "tabled_script: step 1: 'vmreg' is no word that can stand here; maybe vmerge is meant (fault 1: --explain 1)\n  in: 'vmreg'\n",
+        ),
         (
             "--tell|vmreg",
             "",
             "",
             2,
-            "line 1: fault 1\n",
+            "",
             "tabled_script: step 1: 'vmreg' is no word that can stand here; maybe vmerge is meant (fault 1: --explain 1)\n  in: 'vmreg'\n",
         ),
         (
@@ -172,7 +178,7 @@ fn arguments_ask_for_steps_and_forms(rt: HostRuntime) -> Result<(), Fail> {
             "a\nb\n",
             "",
             2,
-            "line 2: fault 1\n",
+            "",
             "tabled_script: step 2: 'vmreg' is no word that can stand here; maybe vmerge is meant (fault 1: --explain 1)\n  in: 'vmreg'\n",
         ),
         (
@@ -180,7 +186,7 @@ fn arguments_ask_for_steps_and_forms(rt: HostRuntime) -> Result<(), Fail> {
             "",
             "row\ta\n",
             2,
-            "line 3: fault 1\n",
+            "",
             "tabled_script: step 2: 'vmreg' is no word that can stand here; maybe vmerge is meant (fault 1: --explain 1)\n  in: 'vmreg' 'a b'\n",
         ),
         (
@@ -188,7 +194,7 @@ fn arguments_ask_for_steps_and_forms(rt: HostRuntime) -> Result<(), Fail> {
             "",
             "\nset\tcel\t\u{1b}\u{e4}\r",
             2,
-            "line 2: fault 1\n",
+            "",
             "tabled_script: line 2: 'cel' is no word that can stand here; maybe cell is meant (fault 1: --explain 1)\n  in: 'set' 'cel' '\\u{1b}\u{e4}\\r'\n",
         ),
         // Each kind of step that may name nothing, and one that names something.
@@ -216,7 +222,7 @@ fn arguments_ask_for_steps_and_forms(rt: HostRuntime) -> Result<(), Fail> {
             "a,\"b\tc\"\n1\n",
             "row\tx\nspin\n",
             2,
-            "line 2: fault 1\n",
+            "",
             "tabled_script: line 2: 'spin' is no word that can stand here; maybe span is meant (fault 1: --explain 1)\n  in: 'spin'\n",
         ),
         (
@@ -240,7 +246,7 @@ fn arguments_ask_for_steps_and_forms(rt: HostRuntime) -> Result<(), Fail> {
             "a\n\"b",
             "spin",
             2,
-            "csv line 2: fault 1\n",
+            "",
             "tabled_script: f: line 2: a quote is not closed\n",
         ),
         (
@@ -248,18 +254,23 @@ fn arguments_ask_for_steps_and_forms(rt: HostRuntime) -> Result<(), Fail> {
             "a\"\t\"b\"c",
             "",
             2,
-            "csv line 1: fault 2\n",
             "",
+            "tabled_script: f: line 1: something is behind a closing quote\n",
         ),
     ] {
         let asked = match request(alloc, arguments, file) {
             Ok(asked) => asked,
             Err(_) => return Err(Fail::from("refused")),
         };
-        let mut reader = script.as_bytes();
         let mut written = Vec::new(alloc);
         let mut errors = Vec::new(alloc);
-        let got = answer(alloc, &asked, &mut reader, &mut written, &mut errors);
+        let got = answer(
+            alloc,
+            &asked,
+            script.as_bytes(),
+            &mut written,
+            &mut errors,
+        );
         assert_eq!(rt; got, status, "{arguments}");
         assert_eq!(rt; written.as_slice(), output.as_bytes(), "{arguments}");
         assert_eq!(rt; errors.as_slice(), told.as_bytes(), "{arguments}");
