@@ -1,10 +1,11 @@
 -- Why a request isn't made of arguments, or isn't answered, and what is told then.
-use Rattle.std.specs.Prelude.{◌≡◌, ◌⊎◌, ℕ, List, [], ◌∷◌, ◌++◌, String, codes, Option, None, Some, Result, Ok, Err}
+use Rattle.std.specs.Prelude.{◌≡◌, ◌⊎◌, ℕ, List, [], ◌∷◌, ◌++◌, String, codes, if◌then◌else◌, Option, None, Some, Result, Ok, Err}
 use Rattle.std.specs.Borrow.{Bor}
 use Rattle.std.specs.Global.{Global}
 use Rattle.std.specs.Io.KnownBytes.{Appends}
 use Rattle.std.specs.List.{flat_map}
 use Rattle.std.specs.Option.{unwrap_or}
+use Rattle.std.specs.Str.{bytes_eq}
 use Rattle.std.specs.String.{string_bytes}
 use Rattle.std.specs.declared.io.ErrorKind.{ErrorKind}
 use Rattle.std.specs.declared.io.ErrorKind.TheVariants.{IsADirectory, NotFound, PermissionDenied, StorageFull}
@@ -89,14 +90,14 @@ value_text setting.Picture value = name_of setting.Picture ++ codes " takes no v
 value_text setting.Checks value = name_of setting.Checks ++ codes " takes no value"
 value_text file name = codes "no name of a file stands behind " ++ name_of file
 
--- which option may be meant, or where they are listed
-abbrev pub cure_of : Option (Bor (List ℕ)) → List ℕ
-cure_of None = codes ": --help lists them"
-cure_of (Some meant) = codes "; maybe " ++ (meant.now ++ codes " is meant")
+-- which option may be meant by one that isn't known here, or where they are listed
+abbrev pub cure_of : List ℕ → Option (Bor (List ℕ)) → List ℕ
+cure_of option None = codes ": --help lists them"
+cure_of option (Some meant) = if bytes_eq meant.now option then codes " here: it stands first" else codes "; maybe " ++ (meant.now ++ codes " is meant")
 
 -- that there is no such option
 abbrev pub option_text : List ℕ → List ℕ
-option_text option = codes "there is no option " ++ (option ++ cure_of (nearest option OPTIONS))
+option_text option = codes "there is no option " ++ (option ++ cure_of option (nearest option OPTIONS))
 
 -- what is wrong with an argument, or this part of it
 abbrev pub misuse_text : Misuse → List ℕ → List ℕ

@@ -1,7 +1,7 @@
 -- What arguments ask for, as a whole.
-use Rattle.std.specs.Prelude.{◌≡◌, ℕ, ◌&&◌, Bool, true, false, List, [], ◌∷◌, codes, length, ◌==◌, map, not, Option, None, Some}
+use Rattle.std.specs.Prelude.{◌≡◌, ℕ, ◌&&◌, Bool, true, false, List, [], ◌∷◌, codes, if◌then◌else◌, length, ◌==◌, map, not, Option, None, Some}
 use Rattle.std.specs.List.{find}
-use Rattle.std.specs.Option.{option_and_then, option_map, option_or, unwrap_or}
+use Rattle.std.specs.Option.{is_some, option_and_then, option_map, option_or, unwrap_or}
 use Rattle.std.specs.String.{string_bytes}
 use Rattle.tabled_draw.specs.Styles.{ascii}
 use Rattle.tabled_draw.specs.declared.alignment.Alignment.{Alignment}
@@ -105,9 +105,9 @@ IsUnmade asked (Failed name failure) = ⊥
 abbrev pub drawn_of : Asked → Drawn
 drawn_of asked = unwrap_or asked.drawn (drawn.Style ascii)
 
--- how many columns a picture has at most: those that are asked for, or those of the terminal
+-- how many columns a picture has at most: those that are asked for, or those of the terminal that it is written to
 abbrev pub width_of : Asked → Option ℕ
-width_of asked = option_or asked.width asked.columns
+width_of asked = option_or asked.width (if is_some asked.output then None else asked.columns)
 
 -- what parts the fields of the files that are read
 abbrev pub separator_of : Asked → ℕ

@@ -44,7 +44,7 @@ impl Telling {
 ///
 /// Of this project.
 pub fn told_instead(alloc: Global, arguments: &[String]) -> Result<Option<Telling>, AllocError> {
-    let Some((option, words)) = arguments.split_first() else {
+    let Some((option, words)) = without_columns(arguments).split_first() else {
         return Ok(None);
     };
     let told = match option.as_str() {
@@ -60,6 +60,14 @@ pub fn told_instead(alloc: Global, arguments: &[String]) -> Result<Option<Tellin
         _ => return Ok(None),
     };
     Ok(Some(told))
+}
+
+/// The arguments without the columns of a terminal, which stand before all others.
+fn without_columns(arguments: &[String]) -> &[String] {
+    match arguments {
+        [option, _, others @ ..] if option.as_str() == "--columns" => others,
+        _ => arguments,
+    }
 }
 
 /// What is said of a word.

@@ -75,7 +75,7 @@ impl Arguments {
             Written::Csv => Form::Csv(to_separator.unwrap_or(separator)),
             Written::Picture => picture(
                 drawn.unwrap_or(Drawn::Style(Style::ascii())),
-                width.or(columns),
+                width.or(if output.is_some() { None } else { columns }),
                 alignments.unwrap_or(Vec::new(alloc)),
             ),
         };

@@ -192,6 +192,9 @@ fn option_text(alloc: Global, option: &str) -> Result<String, AllocError>
     ensures { IfOk result (λ text. string_bytes text ≡ option_text option.now) }
 {
     match nearest(option, &OPTIONS) {
+        Some(meant) if meant == option => {
+            format!(in alloc; "there is no option {option} here: it stands first")
+        }
         Some(meant) => format!(in alloc; "there is no option {option}; maybe {meant} is meant"),
         None => format!(in alloc; "there is no option {option}: --help lists them"),
     }
