@@ -33,6 +33,7 @@ pub use form::Form;
 pub use help::{Telling, told_instead};
 pub use invocation::Invocation;
 pub use program::{answer, draw_script, run_script};
+pub use reading::{Unread, read_whole};
 pub use refusal::{Failure, Misuse, Refusal};
 pub use request::{Format, Request, Source};
 pub use setting::{Kind, Setting};

@@ -141,7 +141,7 @@ fn run_to_form<R: Read, W: Write>(
 {
     let script = match read_whole(alloc, reader) {
         Ok(script) => script,
-        Err(Unread::Failed) => return FAILED,
+        Err(Unread::Failed(_)) => return FAILED,
         Err(Unread::OutOfMemory) => return end(alloc, Outcome::OutOfMemory, writer),
     };
     let request = Request::new(alloc, form);

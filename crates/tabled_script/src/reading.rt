@@ -4,11 +4,14 @@ ghost use Rattle.std.specs.Prelude.{◌≡◌, IfOk, IfSome};
 
 use crate::watched::Watched;
 use std::alloc::Global;
-use std::io::Read;
+use std::io::{ErrorKind, Read};
 
 /// Why bytes were not read.
+///
+/// Of this project.
 pub enum Unread {
-    Failed,
+    /// A read failed.
+    Failed(ErrorKind),
     OutOfMemory,
 }
 
@@ -21,13 +24,13 @@ pub fn read_whole<R: Read>(alloc: Global, reader: &mut R) -> Result<Vec<u8>, Unr
     let mut whole = Vec::new(alloc);
     let mut watched = Watched {
         reader,
-        has_failed: false,
+        failure: None,
     };
-    if let Err(_) = watched.read_to_end(&mut whole) {
-        if watched.has_failed {
-            return Err(Unread::Failed);
-        }
-        return Err(Unread::OutOfMemory);
+    match watched.read_to_end(&mut whole) {
+        Ok(_) => Ok(whole),
+        Err(_) => Err(match watched.failure {
+            Some(kind) => Unread::Failed(kind),
+            None => Unread::OutOfMemory,
+        }),
     }
-    Ok(whole)
 }

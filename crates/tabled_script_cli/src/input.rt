@@ -1,27 +1,28 @@
 //! The files that are read.
 
 use std::fs;
-use std::io::{ErrorKind, IsTerminal, Read};
-use tabled_script::{Failure, Refusal};
+use std::io::{ErrorKind, IsTerminal};
+use tabled_script::{Failure, Refusal, Unread, read_whole};
 
 /// The bytes of a file, or of standard input where it is called `-`.
 pub fn read_file(rt: &HostRuntime, name: &str) -> Result<Vec<u8>, Refusal> {
-    let mut bytes = Vec::new(rt.alloc());
+    let alloc = rt.alloc();
     let read = if name == "-" {
-        rt.reader().read_to_end(&mut bytes)
+        read_whole(alloc, &mut rt.reader())
     } else {
         match fs::open(rt, name) {
-            Ok(mut file) => file.read_to_end(&mut bytes),
-            Err(error) => Err(error),
+            Ok(mut file) => read_whole(alloc, &mut file),
+            Err(error) if error.kind() == ErrorKind::OutOfMemory => Err(Unread::OutOfMemory),
+            Err(error) => Err(Unread::Failed(error.kind())),
         }
     };
     match read {
-        Ok(_) => Ok(bytes),
-        Err(error) if error.kind() == ErrorKind::OutOfMemory => Err(Refusal::OutOfMemory),
-        Err(error) => Err(Refusal::Failed(
-            String::from_str(rt.alloc(), name)?,
-            Failure::of(error.kind()),
-        )),
+        Ok(bytes) => Ok(bytes),
+        Err(Unread::OutOfMemory) => Err(Refusal::OutOfMemory),
+        Err(Unread::Failed(kind)) => {
+            let name = String::from_str(alloc, name)?;
+            Err(Refusal::Failed(name, Failure::of(kind)))
+        }
     }
 }
 

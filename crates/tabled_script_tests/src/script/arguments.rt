@@ -2,21 +2,21 @@
 
 use std::alloc::Global;
 use std::test::Fail;
-use tabled_script::{Arguments, Refusal, Request, answer};
+use tabled_script::{Arguments, Invocation, Refusal, answer};
 
 /// What arguments ask for, which stand apart by bars, with the bytes of a file.
-fn request(alloc: Global, arguments: &str, file: &str) -> Result<Request, Refusal> {
+fn invocation(alloc: Global, arguments: &str, file: &str) -> Result<Invocation, Refusal> {
     let mut taken = Arguments::new(alloc);
     for argument in arguments.split('|') {
         if !arguments.is_empty() {
             taken = taken.take(alloc, argument)?;
         }
     }
-    let mut request = taken.into_request(alloc)?;
-    for source in &mut request.sources {
+    let mut invocation = taken.into_invocation(alloc)?;
+    for source in &mut invocation.request.sources {
         source.bytes.extend_from_slice(file.as_bytes())?;
     }
-    Ok(request)
+    Ok(invocation)
 }
 
 #[test]
@@ -114,17 +114,41 @@ fn arguments_ask_for_steps_and_forms(rt: HostRuntime) -> Result<(), Fail> {
             "+----+---+\n| 漢 | x |\n| 字 |   |\n| 漢 |   |\n| 字 |   |\n+----+---+\n",
             "",
         ),
+        // The columns of a terminal are those of a picture, unless it is asked for in a width or written to a file.
         (
-            "--width|1|row|a b",
+            "--columns|7|row|aa b",
             "",
             "",
             0,
-            "shape\t1\t1\nrow\ta b\n",
+            "shape\t1\t1\nrow\taa b\n",
             "",
         ),
-        // The last value of an option counts.
         (
-            "--align|lc|--align|r|row|a b|c d|then|row|x|y",
+            "--columns|7|--draw|row|aa b",
+            "",
+            "",
+            0,
+            "+----+\n| aa |\n| b  |\n+----+\n",
+            "",
+        ),
+        (
+            "--columns|7|--width|20|row|aa b",
+            "",
+            "",
+            0,
+            "+------+\n| aa b |\n+------+\n",
+            "",
+        ),
+        (
+            "--columns|7|--draw|-o|f|row|aa b",
+            "",
+            "",
+            0,
+            "+------+\n| aa b |\n+------+\n",
+            "",
+        ),
+        (
+            "--align=r|row|a b|c d|then|row|x|y",
             "",
             "",
             0,
@@ -132,7 +156,7 @@ fn arguments_ask_for_steps_and_forms(rt: HostRuntime) -> Result<(), Fail> {
             "",
         ),
         (
-            "--to|csv|--separator|tab|row|a|b c",
+            "--to=csv|--separator=tab|row|a|b c",
             "",
             "",
             0,
@@ -141,7 +165,7 @@ fn arguments_ask_for_steps_and_forms(rt: HostRuntime) -> Result<(), Fail> {
         ),
         // Markdown is escaped, and of no width.
         (
-            "--width|9|--style|markdown|--align|lr|set|cell|1|0|<br>",
+            "--columns|9|--style|markdown|--align|lr|set|cell|1|0|<br>",
             "",
             "row\ta|b\tx\\ny\nrow\t1\t2\nspan\t1\t0\t1\t2\n",
             0,
@@ -149,11 +173,19 @@ fn arguments_ask_for_steps_and_forms(rt: HostRuntime) -> Result<(), Fail> {
             "",
         ),
         (
-            "--style|markdown|--style|ascii|row|a",
+            "--draw|--|row|--draw|-|then|row|--",
             "",
             "",
             0,
-            "+---+\n| a |\n+---+\n",
+            "+--------+---+\n| --draw | - |\n+--------+---+\n| --     |   |\n+--------+---+\n",
+            "",
+        ),
+        (
+            "--separator|;|--to-separator|,|--csv|f",
+            "a;b\n",
+            "",
+            0,
+            "a,b\n",
             "",
         ),
         // Faults are told with the words of their lines, and nothing is written.
@@ -166,7 +198,7 @@ fn arguments_ask_for_steps_and_forms(rt: HostRuntime) -> Result<(), Fail> {
             "tabled_script: step 1: 'vmreg' is no word that can stand here; maybe vmerge is meant (fault 1: --explain 1)\n  in: 'vmreg'\n",
         ),
         (
-            "--tell|vmreg",
+            "--check|vmreg",
             "",
             "",
             2,
@@ -174,7 +206,7 @@ fn arguments_ask_for_steps_and_forms(rt: HostRuntime) -> Result<(), Fail> {
             "tabled_script: step 1: 'vmreg' is no word that can stand here; maybe vmerge is meant (fault 1: --explain 1)\n  in: 'vmreg'\n",
         ),
         (
-            "--csv|f|--tell|then|vmerge|then|then|vmreg",
+            "--csv|f|then|vmerge|then|then|vmreg",
             "a\nb\n",
             "",
             2,
@@ -182,7 +214,7 @@ fn arguments_ask_for_steps_and_forms(rt: HostRuntime) -> Result<(), Fail> {
             "tabled_script: step 2: 'vmreg' is no word that can stand here; maybe vmerge is meant (fault 1: --explain 1)\n  in: 'vmreg'\n",
         ),
         (
-            "--tell|vmerge|then|vmreg|a b",
+            "--align|l|vmerge|then|vmreg|a b",
             "",
             "row\ta\n",
             2,
@@ -190,7 +222,7 @@ fn arguments_ask_for_steps_and_forms(rt: HostRuntime) -> Result<(), Fail> {
             "tabled_script: step 2: 'vmreg' is no word that can stand here; maybe vmerge is meant (fault 1: --explain 1)\n  in: 'vmreg' 'a b'\n",
         ),
         (
-            "--tell|vmerge",
+            "--style|dots|vmerge",
             "",
             "\nset\tcel\t\u{1b}\u{e4}\r",
             2,
@@ -218,7 +250,7 @@ fn arguments_ask_for_steps_and_forms(rt: HostRuntime) -> Result<(), Fail> {
         ),
         // Rows of a file stand before those of a script, whose lines keep their numbers.
         (
-            "--csv|f|--tell",
+            "--csv|f",
             "a,\"b\tc\"\n1\n",
             "row\tx\nspin\n",
             2,
@@ -242,7 +274,7 @@ fn arguments_ask_for_steps_and_forms(rt: HostRuntime) -> Result<(), Fail> {
             "",
         ),
         (
-            "--csv|f|--tell",
+            "--csv|f",
             "a\n\"b",
             "spin",
             2,
@@ -258,8 +290,8 @@ fn arguments_ask_for_steps_and_forms(rt: HostRuntime) -> Result<(), Fail> {
             "tabled_script: f: line 1: something is behind a closing quote\n",
         ),
     ] {
-        let asked = match request(alloc, arguments, file) {
-            Ok(asked) => asked,
+        let asked = match invocation(alloc, arguments, file) {
+            Ok(asked) => asked.request,
             Err(_) => return Err(Fail::from("refused")),
         };
         let mut written = Vec::new(alloc);
@@ -282,37 +314,103 @@ fn arguments_ask_for_steps_and_forms(rt: HostRuntime) -> Result<(), Fail> {
 fn what_cannot_be_asked_is_refused(rt: HostRuntime) -> Result<(), Fail> {
     let alloc = rt.alloc();
     for &(arguments, told) in &[
-        ("--spin", "there is no option --spin: --help lists them\n"),
-        ("--check|--csv", "the last option lacks its value\n"),
+        ("--spin", "there is no option --spin: --help lists them"),
+        ("--check|--cvs|f", "there is no option --cvs; maybe --csv is meant"),
+        ("-", "there is no option -; maybe -o is meant"),
+        ("--draw|--help", "there is no option --help here: it stands first"),
+        ("--check|--csv", "--csv lacks its value"),
+        ("--draw=yes", "--draw takes no value"),
         (
             "--style|Modern",
-            "there is no style Modern: ascii modern rounded sharp extended psql markdown re_structured_text dots ascii_rounded blank empty\n",
+            "there is no style Modern: ascii modern rounded sharp extended psql markdown re_structured_text dots ascii_rounded blank empty",
         ),
         (
-            "--align|lx",
-            "columns are aligned by letters l, c and r, not by lx\n",
+            "--align=lx",
+            "columns are aligned by letters l, c and r, not by lx",
         ),
         (
             "--separator|\"",
-            "\" is no separator: one character of ASCII, but no quote, or tab\n",
+            "\" is no separator: one character of ASCII, but no quote, or tab",
         ),
         (
-            "--separator|::",
-            ":: is no separator: one character of ASCII, but no quote, or tab\n",
+            "--to-separator|::",
+            ":: is no separator: one character of ASCII, but no quote, or tab",
         ),
-        ("--to|tsv", "a table is written --to csv, and not to tsv\n"),
-        ("--width|+9", "+9 is no number of columns\n"),
+        ("--to|tsv", "there is no form tsv: script csv"),
+        ("--width|+9", "+9 is no number of columns"),
+        ("--columns=", " is no number of columns"),
+        ("--csv|", "no name of a file stands behind --csv"),
+        ("--script=", "no name of a file stands behind --script"),
+        ("-o=", "no name of a file stands behind --output"),
+        ("--width|8|--width|9", "--width stands here twice"),
+        ("--output|f|-o|g", "--output stands here twice"),
+        (
+            "--csv|-|--csv|f|--script|-",
+            "standard input is read once: - stands here twice",
+        ),
+        ("sales.csv", "sales.csv is a file: --csv sales.csv"),
+        (
+            "--csv|f|row|f.csv|then|g.tsv",
+            "g.tsv is a file: --separator tab --csv g.tsv",
+        ),
+        (
+            "--to|csv|--style|modern",
+            "--to and --style contradict each other",
+        ),
+        (
+            "--width|9|--to|script",
+            "--to and --width contradict each other",
+        ),
+        (
+            "--to-separator|tab|--align|l|--draw",
+            "--draw and --to-separator contradict each other",
+        ),
+        (
+            "--width|9|--style|markdown",
+            "--style and --width contradict each other",
+        ),
     ] {
-        let mut written = Vec::new(alloc);
         let mut errors = Vec::new(alloc);
-        let status = match request(alloc, arguments, "") {
+        let status = match invocation(alloc, arguments, "") {
             Ok(_) => 0,
-            Err(refusal) => refusal.tell(alloc, &mut written, &mut errors),
+            Err(refusal) => refusal.tell(alloc, &mut errors),
         };
         assert_eq!(rt; status, 1, "{arguments}");
-        let line = format!(in alloc; "tabled_script: {told}")?;
-        assert_eq!(rt; errors.as_slice(), line.as_bytes());
-        assert!(rt; written.is_empty());
+        let line = format!(in alloc; "tabled_script: {told}\n")?;
+        assert_eq!(rt; errors.as_slice(), line.as_bytes(), "{arguments}");
     }
     Ok(())
+}
+
+#[test]
+fn files_are_named(rt: HostRuntime) -> Result<(), Fail> {
+    let alloc = rt.alloc();
+    for &(arguments, sources, script, output) in &[
+        ("", "", "-", ""),
+        ("--draw", "", "-", ""),
+        ("--csv|b|--csv|a|row|c", "b a ", "", ""),
+        ("--csv|-|--script|s|-o|t", "- ", "s", "t"),
+        ("--script|s|--output=-", "", "s", "-"),
+    ] {
+        let named = match invocation(alloc, arguments, "") {
+            Ok(named) => named,
+            Err(_) => return Err(Fail::from("refused")),
+        };
+        let mut names = String::new(alloc);
+        for source in &named.request.sources {
+            names.push_str(source.name.as_str())?;
+            names.push(' ')?;
+        }
+        assert_eq!(rt; names.as_str(), sources, "{arguments}");
+        assert_eq!(rt; name_or_none(&named.script), script, "{arguments}");
+        assert_eq!(rt; name_or_none(&named.output), output, "{arguments}");
+    }
+    Ok(())
+}
+
+fn name_or_none(name: &Option<String>) -> &str {
+    match name {
+        Some(name) => name.as_str(),
+        None => "",
+    }
 }
