@@ -1,9 +1,9 @@
 pub mod Again
 pub mod Answer
 pub mod Arguments
-pub mod Asked
 pub mod Cuts
 pub mod InMemory
+pub mod Inputs
 pub mod Limits
 pub mod Narrow
 pub mod Outcome

@@ -23,7 +23,7 @@ use tabled_steps::run;
 
 /// Reads the script of rows, bytes and the steps of a request, and writes the table that it ends with in the form that
 /// is asked for. Steps that name nothing are told where that is asked for.
-pub(crate) fn write_result<W: Write, E: Write>(
+pub(crate) fn run_between<W: Write, E: Write>(
     alloc: Global,
     request: &Request,
     rows: Vec<Vec<LentText>>,
@@ -42,14 +42,14 @@ pub(crate) fn write_result<W: Write, E: Write>(
         return Outcome::OutOfMemory;
     };
     match parse_between(alloc, rows, script, words) {
-        Ok(script) => write_end(alloc, request, lines, script, writer, errors),
+        Ok(script) => run_parsed(alloc, request, lines, script, writer, errors),
         Err(ParseError::Faulty { line, fault }) => Outcome::Faulty(line, fault),
         Err(ParseError::OutOfMemory) => Outcome::OutOfMemory,
     }
 }
 
 /// Writes the table of a script's records and merged cells after its steps.
-fn write_end<W: Write, E: Write>(
+fn run_parsed<W: Write, E: Write>(
     alloc: Global,
     request: &Request,
     lines: Lines,
@@ -59,14 +59,14 @@ fn write_end<W: Write, E: Write>(
 ) -> Outcome
     ensures { ComesOfState request.now.form (ended (said_by script.entry)) (W.contents writer.old) (W.contents writer.new) result }
 {
-    match end(alloc, request.checks_steps, lines, script, errors) {
+    match state_at_end(alloc, request.checks_steps, lines, script, errors) {
         Ok((records, spans)) => request.form.write(alloc, records, &spans, writer),
         Err(_) => Outcome::OutOfMemory,
     }
 }
 
 /// The cells and the merged cells of a script after its steps.
-fn end<'a, E: Write>(
+fn state_at_end<'a, E: Write>(
     alloc: Global,
     checks_steps: bool,
     lines: Lines,

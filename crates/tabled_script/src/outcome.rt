@@ -52,9 +52,10 @@ impl Outcome {
         ensures { result ≡ outcome_of_drawing drawn }
     {
         match drawn {
-            Ok(Ok(written)) => Outcome::of_writing(Ok(written)),
+            Ok(Ok(Ok(()))) => Outcome::Written,
+            Ok(Ok(Err(_))) => Outcome::Failed,
             Ok(Err(narrow)) => Outcome::TooNarrow(narrow),
-            Err(refused) => Outcome::of_writing(Err(refused)),
+            Err(_) => Outcome::OutOfMemory,
         }
     }
 

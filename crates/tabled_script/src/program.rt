@@ -4,15 +4,15 @@ ghost use Rattle.std.specs.Prelude.{◌≡◌, ◌⊎◌, ℕ, Ok, Err, IfOk, If
 ghost use Rattle.std.specs.Io.KnownBytes.{Appends};
 ghost use Rattle.std.specs.String.{string_bytes};
 ghost use Rattle.tabled_script.specs.Again.{FitsAtEnd, GivesAgain};
-ghost use Rattle.tabled_script.specs.Answer.{ShowsState, ShowsTable, ended, fault_line, memory_line, output_of, picture_of};
+ghost use Rattle.tabled_script.specs.Answer.{ShowsState, ended, fault_line, memory_line, output_of, picture_of};
 ghost use Rattle.tabled_script.specs.Inputs.{HasTable};
-ghost use Rattle.tabled_script.specs.Outcome.{Ends, Faults, FindsNoTable};
+ghost use Rattle.tabled_script.specs.Outcome.{Ends, FindsNoTable, ShowsNoTable, ShowsTable};
 ghost use Rattle.tabled_script.specs.Status.{IsStatus, done, faulty, out_of_memory};
 ghost use Rattle.tabled_language.specs.Parsing.{cell_texts};
 ghost use Rattle.tabled_language.specs.Script.{Script as Meaning, parse, parse_between};
 ghost use Rattle.tabled_language.specs.declared.fault.Fault.{Fault};
 
-use crate::ending::write_result;
+use crate::ending::run_between;
 use crate::form::Form;
 use crate::inputs::rows_of_sources;
 use crate::outcome::{FAILED, FAULTY, OUT_OF_MEMORY, Outcome};
@@ -115,7 +115,7 @@ pub fn answer<W: Write, E: Write>(
                 script,
                 steps: &request.steps,
             };
-            let outcome = write_result(alloc, request, rows, script, writer, errors);
+            let outcome = run_between(alloc, request, rows, script, writer, errors);
             tell_outcome(alloc, lines, outcome, errors);
             outcome.status()
         }
@@ -136,22 +136,22 @@ fn run_to_form<R: Read, W: Write>(
 ) -> u8
     ensures known { IsStatus result }
     ensures done { result ≡ done → IfSome (R.remaining reader.old) (λ input. ShowsTable form.entry input (W.contents writer.old) (W.contents writer.new)) }
-    ensures faulty { result ≡ faulty → IfSome (R.remaining reader.old) (λ input. Faults form.entry input (W.contents writer.old) (W.contents writer.new)) }
+    ensures faulty { result ≡ faulty → IfSome (R.remaining reader.old) (λ input. ShowsNoTable form.entry input (W.contents writer.old) (W.contents writer.new)) }
     ensures memory { result ≡ out_of_memory → Appends (W.contents writer.old) (W.contents writer.new) memory_line }
 {
     let script = match read_whole(alloc, reader) {
         Ok(script) => script,
         Err(Unread::Failed(_)) => return FAILED,
-        Err(Unread::OutOfMemory) => return end(alloc, Outcome::OutOfMemory, writer),
+        Err(Unread::OutOfMemory) => return write_end(alloc, Outcome::OutOfMemory, writer),
     };
     let request = Request::new(alloc, form);
     let rows = Vec::new(alloc);
-    let outcome = write_result(alloc, &request, rows, &script, writer, &mut io::sink());
-    end(alloc, outcome, writer)
+    let outcome = run_between(alloc, &request, rows, &script, writer, &mut io::sink());
+    write_end(alloc, outcome, writer)
 }
 
 /// Writes the line of a fault, or that memory ran out, where that is what comes of a script, and answers its status.
-pub(crate) fn end<W: Write>(alloc: Global, outcome: Outcome, writer: &mut W) -> u8
+pub(crate) fn write_end<W: Write>(alloc: Global, outcome: Outcome, writer: &mut W) -> u8
     ensures { Ends outcome result (W.contents writer.old) (W.contents writer.new) }
 {
     let (written, status) = match outcome {

@@ -3,7 +3,7 @@
 mod streams;
 
 use crate::outcome::Outcome;
-use crate::program::end;
+use crate::program::write_end;
 use std::test::Fail;
 use tabled_language::Fault;
 
@@ -16,7 +16,7 @@ fn says_how_it_ended(rt: HostRuntime) -> Result<(), Fail> {
         (Outcome::Failed, 4, ""),
     ] {
         let mut written = Vec::new(rt.alloc());
-        assert_eq!(rt; end(rt.alloc(), outcome, &mut written), status);
+        assert_eq!(rt; write_end(rt.alloc(), outcome, &mut written), status);
         assert_eq!(rt; written.as_slice(), bytes.as_bytes());
     }
     Ok(())

@@ -1,7 +1,7 @@
 //! Scripts run over readers and writers that give and take little, fail, or are interrupted.
 
 use crate::outcome::Outcome;
-use crate::program::end;
+use crate::program::write_end;
 use crate::run_script;
 use std::io::{self, ErrorKind, Read, Write};
 use std::test::Fail;
@@ -121,7 +121,7 @@ fn what_is_written_is_flushed_or_failed(rt: HostRuntime) -> Result<(), Fail> {
                         flushed: Vec::new(alloc),
                     };
                     let answered = if status == 3 {
-                        end(alloc, Outcome::OutOfMemory, &mut writer)
+                        write_end(alloc, Outcome::OutOfMemory, &mut writer)
                     } else {
                         let mut reader = script.as_bytes();
                         run_script(alloc, &mut reader, &mut writer)
