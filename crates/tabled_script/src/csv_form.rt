@@ -75,7 +75,7 @@ fn lent_rows<'a>(
 
 /// A row of texts as a record.
 fn lent_row<'a>(alloc: Global, row: &[&'a str]) -> Result<Vec<LentText<'a>>, AllocError>
-    ensures { IfOk result (λ record. texts_in_row record ≡ map text_of row.now) }
+    ensures { IfOk result (λ lent. texts_in_row lent ≡ map text_of row.now) }
 {
     let mut record = Vec::with_capacity(alloc, row.len())?;
     for text in row {

@@ -26,10 +26,7 @@ pub(crate) enum SourceFault {
 #[derive(Clone, Copy)]
 pub(crate) enum RowsError {
     /// It is faulty, as shows in a line.
-    Faulty {
-        line: usize,
-        fault: SourceFault,
-    },
+    Faulty { line: usize, fault: SourceFault },
     OutOfMemory,
 }
 

@@ -128,12 +128,7 @@ pub fn answer<W: Write, E: Write>(
 
 /// Reads the script that a reader has, writes the table that it ends with in a form, or what ends it, and answers a
 /// status.
-fn run_to_form<R: Read, W: Write>(
-    alloc: Global,
-    form: Form,
-    reader: &mut R,
-    writer: &mut W,
-) -> u8
+fn run_to_form<R: Read, W: Write>(alloc: Global, form: Form, reader: &mut R, writer: &mut W) -> u8
     ensures known { IsStatus result }
     ensures done { result ≡ done → IfSome (R.remaining reader.old) (λ input. ShowsTable form.entry input (W.contents writer.old) (W.contents writer.new)) }
     ensures faulty { result ≡ faulty → IfSome (R.remaining reader.old) (λ input. ShowsNoTable form.entry input (W.contents writer.old) (W.contents writer.new)) }

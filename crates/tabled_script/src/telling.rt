@@ -259,7 +259,9 @@ fn difference_lines(
     head: &[LentText],
     first: &[LentText],
 ) -> Result<String, AllocError> {
-    let mut told = format!(in alloc; "tabled_script: {name}: its first row is not that of the files before it\n ")?;
+    let mut told = format!(in alloc;
+        "tabled_script: {name}: its first row is not that of the files before it\n "
+    )?;
     told_texts(alloc, first)?.push_to(&mut told)?;
     told.push_str(" in place of")?;
     told_texts(alloc, head)?.push_to(&mut told)?;
