@@ -36,9 +36,9 @@ pub record Asked : Type 0 where
   pub step : List (List ℕ)
   pub checks_steps : Bool
 
--- an argument, or a part of it, that asks for nothing, and why
-abbrev pub Misused : Type 0
-Misused = Misuse × List ℕ
+-- why an argument asks for nothing, and the part of it that does
+abbrev pub Blamed : Type 0
+Blamed = Misuse × List ℕ
 
 -- a setting has its value
 abbrev pub is_set : Setting → Asked → Bool
@@ -94,7 +94,7 @@ abbrev pub expect : Next → Asked → Asked
 expect what asked = record asked { next = what }
 
 -- what is asked for once a setting is set to a value: once at most, and standard input is read once
-abbrev pub with_value : Setting → List ℕ → Asked → Result Asked Misused
+abbrev pub with_value : Setting → List ℕ → Asked → Result Asked Blamed
 with_value setting value asked =
     if is_set setting asked then Err (misuse.Repeated setting, value)
     else (if names_input setting && (is_input value && asked.reads_input) then Err (misuse.InputRepeated, value)
@@ -102,21 +102,23 @@ with_value setting value asked =
     else Err (misuse.WrongValue setting, value)))
 
 -- what is asked for once an option stands there by itself: what is behind it is its value, unless it takes none
-abbrev pub with_option : Option Setting → List ℕ → Asked → Result Asked Misused
+abbrev pub with_option : Option Setting → List ℕ → Asked → Result Asked Blamed
 with_option None option asked = Err (misuse.NoOption, option)
 with_option (Some setting.Picture) option asked = Ok (record asked { draws = true })
 with_option (Some setting.Checks) option asked = Ok (record asked { checks_steps = true })
 with_option (Some setting) option asked = Ok (expect (next.Value setting) asked)
 
 -- what is asked for once an option and its value stand there as one
-abbrev pub with_option_and_value : Option Setting → List ℕ → List ℕ → Asked → Result Asked Misused
+abbrev pub with_option_and_value : Option Setting → List ℕ → List ℕ → Asked → Result Asked Blamed
 with_option_and_value None option value asked = Err (misuse.NoOption, option)
 with_option_and_value (Some setting) option value asked = if takes_value setting then with_value setting value asked else Err (misuse.NeedlessValue setting, value)
 
+abbrev pub is_equals : ℕ → Bool
+is_equals byte = byte == 61
+
 -- what is asked for once there is an argument that begins with a minus: `--` ends the options, and `=` stands between an option and its value
-abbrev pub with_dashed : List ℕ → Asked → Result Asked Misused
+abbrev pub with_dashed : List ℕ → Asked → Result Asked Blamed
 with_dashed argument asked =
-    let is_equals = λ byte. byte == 61 in
     if bytes_eq argument (codes "--") then Ok (expect next.Word asked)
     else (if nat_lt (position_or_len is_equals argument) (length argument)
         then with_option_and_value (named_in options (before_first is_equals argument)) (before_first is_equals argument) (after_first is_equals argument) asked
@@ -132,18 +134,18 @@ abbrev pub step_ended : Asked → Asked
 step_ended asked = record asked { steps = asked.steps ++ step_of asked.step; step = [] }
 
 -- what is asked for with one more word: `then` ends a step, and any other is its next word, the first no file's name
-abbrev pub with_word : List ℕ → Asked → Result Asked Misused
+abbrev pub with_word : List ℕ → Asked → Result Asked Blamed
 with_word word asked =
     if bytes_eq word (codes "then") then Ok (expect next.Word (step_ended asked))
     else (if (length asked.step == 0) && is_some (read_by word) then Err (misuse.FileAsStep, word)
     else Ok (record asked { next = next.Word; step = asked.step ++ word ∷ [] }))
 
 -- what is asked for once an argument is taken as what it is, or why it asks for nothing
-abbrev pub taken_as : Next → List ℕ → Asked → Result Asked Misused
+abbrev pub taken_as : Next → List ℕ → Asked → Result Asked Blamed
 taken_as next.Option argument asked = if slice_index argument 0 == 45 then with_dashed argument asked else with_word argument asked
 taken_as (next.Value setting) value asked = with_value setting value asked
 taken_as next.Word word asked = with_word word asked
 
 -- what is asked for once an argument is taken, or why it asks for nothing
-abbrev pub taken : List ℕ → Asked → Result Asked Misused
+abbrev pub taken : List ℕ → Asked → Result Asked Blamed
 taken argument asked = taken_as asked.next argument asked

@@ -1,48 +1,45 @@
 -- Why a request isn't made of arguments, or isn't answered, and what is told then.
-use Rattle.std.specs.Prelude.{◌≡◌, ◌⊎◌, ℕ, List, [], ◌∷◌, ◌++◌, String, codes, if◌then◌else◌, Option, None, Some, Result, Ok, Err}
-use Rattle.std.specs.Borrow.{Bor}
+use Rattle.std.specs.Prelude.{◌≡◌, ◌⊎◌, ℕ, List, [], ◌∷◌, ◌++◌, String, codes, if◌then◌else◌, length, map, nat_le, Option, None, Some, Result, Ok, Err}
 use Rattle.std.specs.Global.{Global}
 use Rattle.std.specs.Io.KnownBytes.{Appends}
-use Rattle.std.specs.List.{flat_map}
-use Rattle.std.specs.Option.{unwrap_or}
+use Rattle.std.specs.List.{find, flat_map}
+use Rattle.std.specs.Option.{option_or, unwrap_or}
 use Rattle.std.specs.Str.{bytes_eq}
 use Rattle.std.specs.String.{string_bytes}
 use Rattle.std.specs.declared.io.ErrorKind.{ErrorKind}
 use Rattle.std.specs.declared.io.ErrorKind.TheVariants.{IsADirectory, NotFound, PermissionDenied, StorageFull}
 use Rattle.tabled_draw.specs.declared.style.TheConstants.Style.{NAMES}
-use Rattle.tabled_help.specs.Near.{nearest}
-use Rattle.tabled_script.specs.Arguments.{Asked, Misused}
-use Rattle.tabled_script.specs.Settings.{name_of, read_by}
+use Rattle.tabled_help.specs.Near.{is_within}
+use Rattle.tabled_script.specs.Arguments.{Asked, Blamed}
+use Rattle.tabled_script.specs.Settings.{forms, name_of, options, read_by}
 use Rattle.tabled_script.specs.Status.{failed, out_of_memory, refused}
 use Rattle.tabled_script.specs.declared.refusal.Failure.{Failure}
 use Rattle.tabled_script.specs.declared.refusal.Failure.TheVariants as failure
 use Rattle.tabled_script.specs.declared.refusal.Misuse.{Misuse}
 use Rattle.tabled_script.specs.declared.refusal.Misuse.TheVariants as misuse
 use Rattle.tabled_script.specs.declared.refusal.Refusal.{Refusal}
-use Rattle.tabled_script.specs.declared.refusal.Refusal.TheVariants.{Contradictory, Failed, NoValue, NotText, OutOfMemory, Terminal}
-use Rattle.tabled_script.specs.declared.refusal.Refusal.TheVariants as refusal
+use Rattle.tabled_script.specs.declared.refusal.Refusal.TheVariants.{Contradictory, Failed, Misused, NoValue, NotText, OutOfMemory, Terminal}
 use Rattle.tabled_script.specs.declared.setting.Setting.{Setting}
 use Rattle.tabled_script.specs.declared.setting.Setting.TheVariants as setting
-use Rattle.tabled_script.specs.declared.setting.TheConstants.{FORMS, OPTIONS}
 
--- this is refused, with the text that it has
-pub record Refuses (misused : Misused) (refusal : Refusal) : Type 0 where
+-- what is blamed is refused
+pub record Refuses (blamed : Blamed) (refused : Refusal) : Type 0 where
   pub text : String Global
-  pub names : string_bytes text ≡ misused.1
-  pub is : refusal ≡ refusal.Misused misused.0 text
+  pub names : string_bytes text ≡ blamed.1
+  pub is : refused ≡ Misused blamed.0 text
 
--- this is refused, or there was no memory for that
-abbrev pub IsRefused : Misused → Refusal → Type 0
-IsRefused misused refusal = (refusal ≡ OutOfMemory) ⊎ Refuses misused refusal
+-- what is blamed is refused, or there was no memory for that
+abbrev pub IsRefused : Blamed → Refusal → Type 0
+IsRefused blamed refused = (refused ≡ OutOfMemory) ⊎ Refuses blamed refused
 
 -- an argument is taken, or is refused for this reason, or there was no memory for that
-abbrev pub Takes : Result Asked Misused → Result Asked Refusal → Type 0
+abbrev pub Takes : Result Asked Blamed → Result Asked Refusal → Type 0
 Takes expected (Ok after) = expected ≡ Ok after
-Takes expected (Err refusal) = (refusal ≡ OutOfMemory) ⊎ ((misused : Misused) × (expected ≡ Err misused) × Refuses misused refusal)
+Takes expected (Err refused) = (refused ≡ OutOfMemory) ⊎ ((blamed : Blamed) × (expected ≡ Err blamed) × Refuses blamed refused)
 
 -- the status that a refusal ends with
 abbrev pub status_of : Refusal → ℕ
-status_of (refusal.Misused misuse text) = refused
+status_of (Misused misuse text) = refused
 status_of (NoValue setting) = refused
 status_of (Contradictory first other) = refused
 status_of NotText = refused
@@ -63,7 +60,7 @@ failure_of NotFound = failure.Missing
 failure_of PermissionDenied = failure.Forbidden
 failure_of IsADirectory = failure.Folder
 failure_of StorageFull = failure.Full
-failure_of other = failure.Other
+failure_of _ = failure.Other
 
 -- the reason, in words
 abbrev pub failure_text : Failure → List ℕ
@@ -73,14 +70,14 @@ failure_text failure.Folder = codes "Is a directory"
 failure_text failure.Full = codes "No space left on device"
 failure_text failure.Other = codes "reading or writing failed"
 
--- that there is nothing of some kind with a name, and which there are
-abbrev pub names_text : List ℕ → List ℕ → List (Bor (List ℕ)) → List ℕ
-names_text kind name names = codes "there is no " ++ (kind ++ (32 ∷ name ++ (58 ∷ flat_map (λ known. 32 ∷ known.now) names)))
+-- that there is nothing of some kind with a name, and which there are, each behind a blank
+abbrev pub names_text : List ℕ → List ℕ → List ℕ → List ℕ
+names_text kind name names = codes "there is no " ++ (kind ++ (32 ∷ name ++ (58 ∷ names)))
 
 -- what is wrong with a value
 abbrev pub value_text : Setting → List ℕ → List ℕ
-value_text setting.Style name = names_text (codes "style") name NAMES
-value_text setting.Form name = names_text (codes "form") name FORMS
+value_text setting.Style name = names_text (codes "style") name (flat_map (λ style. 32 ∷ style.now) NAMES)
+value_text setting.Form name = names_text (codes "form") name (flat_map (λ form. 32 ∷ form.0) forms)
 value_text setting.Alignments letters = codes "columns are aligned by letters l, c and r, not by " ++ letters
 value_text setting.Width number = number ++ codes " is no number of columns"
 value_text setting.Columns number = number ++ codes " is no number of columns"
@@ -90,14 +87,24 @@ value_text setting.Picture value = name_of setting.Picture ++ codes " takes no v
 value_text setting.Checks value = name_of setting.Checks ++ codes " takes no value"
 value_text file name = codes "no name of a file stands behind " ++ name_of file
 
--- which option may be meant by one that isn't known here, or where they are listed
-abbrev pub cure_of : List ℕ → Option (Bor (List ℕ)) → List ℕ
+-- the options, and those of what is told in place of a table
+abbrev pub known_options : List (List ℕ)
+known_options = map (λ option. option.0) options ++ (codes "--help" ∷ codes "--explain" ∷ codes "--version" ∷ [])
+
+-- the first of them that a word becomes by one change, or, where it has five bytes or more, by two
+unfoldable pub meant_by : List ℕ → Option (List ℕ)
+meant_by word =
+    if nat_le 5 (length word) then option_or (find (is_within 1 word) known_options) (find (is_within 2 word) known_options)
+    else find (is_within 1 word) known_options
+
+-- the option that may be meant by one that isn't known here, or where they are listed
+abbrev pub cure_of : List ℕ → Option (List ℕ) → List ℕ
 cure_of option None = codes ": --help lists them"
-cure_of option (Some meant) = if bytes_eq meant.now option then codes " here: it stands first" else codes "; maybe " ++ (meant.now ++ codes " is meant")
+cure_of option (Some meant) = if bytes_eq meant option then codes " here: it stands first" else codes "; maybe " ++ (meant ++ codes " is meant")
 
 -- that there is no such option
 abbrev pub option_text : List ℕ → List ℕ
-option_text option = codes "there is no option " ++ (option ++ cure_of option (nearest option OPTIONS))
+option_text option = codes "there is no option " ++ (option ++ cure_of option (meant_by option))
 
 -- what is wrong with an argument, or this part of it
 abbrev pub misuse_text : Misuse → List ℕ → List ℕ
@@ -110,7 +117,7 @@ misuse_text misuse.FileAsStep name = name ++ (codes " is a file: " ++ (unwrap_or
 
 -- what is told of a refusal
 abbrev pub refusal_text : Refusal → List ℕ
-refusal_text (refusal.Misused misuse text) = misuse_text misuse (string_bytes text)
+refusal_text (Misused misuse text) = misuse_text misuse (string_bytes text)
 refusal_text (NoValue setting) = name_of setting ++ codes " lacks its value"
 refusal_text (Contradictory first other) = name_of first ++ (codes " and " ++ (name_of other ++ codes " contradict each other"))
 refusal_text NotText = codes "an argument isn't UTF-8"

@@ -68,16 +68,16 @@ written_of asked = written_by (deciding asked) asked.written
 -- it is Markdown, which has the width that it has
 abbrev pub is_markdown : Option Drawn → Bool
 is_markdown (Some drawn.Markdown) = true
-is_markdown other = false
+is_markdown _ = false
 
 -- what is written so may be asked for with a setting
 abbrev pub goes_with : Written → Option Drawn → Setting → Bool
-goes_with how drawn setting.Form = true
-goes_with written.Picture drawn setting.ToSeparator = false
-goes_with written.Picture drawn setting.Width = not (is_markdown drawn)
-goes_with written.Picture drawn other = true
-goes_with written.Csv drawn setting.ToSeparator = true
-goes_with how drawn other = false
+goes_with how look setting.Form = true
+goes_with written.Picture look setting.ToSeparator = false
+goes_with written.Picture look setting.Width = not (is_markdown look)
+goes_with written.Picture look _ = true
+goes_with written.Csv look setting.ToSeparator = true
+goes_with _ look _ = false
 
 -- two settings that contradict each other
 abbrev pub contradiction : Asked → Option (Setting × Setting)
@@ -115,12 +115,12 @@ separator_of asked = unwrap_or asked.separator 44
 
 -- the form of what a table is written as, drawn in, how wide, how aligned, and parted by what
 abbrev pub IsForm : Written → Drawn → Option ℕ → List Alignment → ℕ → Form → Type 0
-IsForm how drawn width alignments separator form.Script = how ≡ written.Script
-IsForm how drawn width alignments separator (form.Picture style aligned) = (how ≡ written.Picture) × (drawn ≡ drawn.Style style) × (width ≡ None) × (alignments ≡ aligned.items)
-IsForm how drawn width alignments separator (form.NarrowPicture columns style aligned) =
-    (how ≡ written.Picture) × (drawn ≡ drawn.Style style) × (width ≡ Some columns) × (alignments ≡ aligned.items)
-IsForm how drawn width alignments separator (form.Markdown aligned) = (how ≡ written.Picture) × (drawn ≡ drawn.Markdown) × (alignments ≡ aligned.items)
-IsForm how drawn width alignments separator (form.Csv byte) = (how ≡ written.Csv) × (separator ≡ byte)
+IsForm how look width alignments separator form.Script = how ≡ written.Script
+IsForm how look width alignments separator (form.Picture style aligned) = (how ≡ written.Picture) × (look ≡ drawn.Style style) × (width ≡ None) × (alignments ≡ aligned.items)
+IsForm how look width alignments separator (form.NarrowPicture columns style aligned) =
+    (how ≡ written.Picture) × (look ≡ drawn.Style style) × (width ≡ Some columns) × (alignments ≡ aligned.items)
+IsForm how look width alignments separator (form.Markdown aligned) = (how ≡ written.Picture) × (look ≡ drawn.Markdown) × (alignments ≡ aligned.items)
+IsForm how look width alignments separator (form.Csv byte) = (how ≡ written.Csv) × (separator ≡ byte)
 
 -- the table is written in the form that is asked for
 abbrev pub AsksForm : Asked → Form → Type 0

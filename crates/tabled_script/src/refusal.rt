@@ -1,10 +1,10 @@
 //! Why a request isn't made of arguments, or isn't answered.
 
 ghost use Rattle.std.specs.List.{flat_map};
-ghost use Rattle.std.specs.Prelude.{◌≡◌, ◌++◌, ◌∷◌, IfOk, List, OnOk, ℕ};
+ghost use Rattle.std.specs.Option.{option_map};
+ghost use Rattle.std.specs.Prelude.{◌≡◌, ◌++◌, ◌∷◌, IfOk, OnOk};
 ghost use Rattle.std.specs.String.{string_bytes};
-ghost use Rattle.tabled_script.specs.Refusals.{GetsFirst, failure_of, failure_text, misuse_text, names_text, option_text, refusal_line, refusal_text, status_of, value_text};
-ghost use Rattle.tabled_script.specs.Settings.{read_by};
+ghost use Rattle.tabled_script.specs.Refusals.{GetsFirst, failure_of, failure_text, meant_by, misuse_text, names_text, option_text, refusal_line, refusal_text, status_of, value_text};
 
 use crate::outcome::{FAILED, OUT_OF_MEMORY};
 use crate::setting::{FORMS, OPTIONS, Setting, read_by};
@@ -191,13 +191,20 @@ fn misuse_text(alloc: Global, misuse: Misuse, argument: &str) -> Result<String, 
 fn option_text(alloc: Global, option: &str) -> Result<String, AllocError>
     ensures { IfOk result (λ text. string_bytes text ≡ option_text option.now) }
 {
-    match nearest(option, &OPTIONS) {
+    match meant_by(option) {
         Some(meant) if meant == option => {
             format!(in alloc; "there is no option {option} here: it stands first")
         }
         Some(meant) => format!(in alloc; "there is no option {option}; maybe {meant} is meant"),
         None => format!(in alloc; "there is no option {option}: --help lists them"),
     }
+}
+
+/// The option that may be meant by a word.
+fn meant_by(word: &str) -> Option<&'static str>
+    ensures { option_map (λ option. option.now) result ≡ meant_by word.now }
+{
+    nearest(word, &OPTIONS)
 }
 
 /// What is wrong with a value.
@@ -236,15 +243,24 @@ fn names_text(
     name: &str,
     names: &[&str],
 ) -> Result<String, AllocError>
-    ensures { IfOk result (λ text. string_bytes text ≡ names_text kind.now name.now names.now) }
+    ensures { IfOk result (λ text. string_bytes text ≡ names_text kind.now name.now (flat_map (λ known. 32 ∷ known.now) names.now)) }
 {
     let mut text = format!(in alloc; "there is no {kind} {name}:")?;
-    for name in names {
-        text.push(' ')?;
-        text.push_str(name)?;
-    }
+    push_each(&mut text, names)?;
     Ok(text)
 }
+
+/// Adds names, each behind a blank.
+fn push_each(line: &mut String, names: &[&str]) -> Result<(), AllocError>
+    ensures { OnOk result (string_bytes line.new ≡ string_bytes line.old ++ flat_map (λ name. 32 ∷ name.now) names.now) }
+{
+    for name in names {
+        line.push(' ')?;
+        line.push_str(name)?;
+    }
+    Ok(())
+}
+
 impl From<AllocError> for Refusal {
     ghost use Rattle.std.specs.Prelude.{◌≡◌};
     ghost use Rattle.tabled_script.specs.declared.refusal.Refusal.TheVariants.{OutOfMemory};
