@@ -65,25 +65,20 @@ written_by (Some other) how = written.Picture
 abbrev pub written_of : Asked → Written
 written_of asked = written_by (deciding asked) asked.written
 
--- it is Markdown, which has the width that it has
-abbrev pub is_markdown : Option Drawn → Bool
-is_markdown (Some drawn.Markdown) = true
-is_markdown _ = false
-
 -- what is written so may be asked for with a setting
-abbrev pub goes_with : Written → Option Drawn → Setting → Bool
-goes_with how look setting.Form = true
-goes_with written.Picture look setting.ToSeparator = false
-goes_with written.Picture look setting.Width = not (is_markdown look)
-goes_with written.Picture look _ = true
-goes_with written.Csv look setting.ToSeparator = true
-goes_with _ look _ = false
+abbrev pub goes_with : Written → Setting → Bool
+goes_with _ setting.Form = true
+goes_with written.Script _ = false
+goes_with written.Picture setting.ToSeparator = false
+goes_with written.Picture _ = true
+goes_with written.Csv setting.ToSeparator = true
+goes_with written.Csv _ = false
 
 -- two settings that contradict each other
 abbrev pub contradiction : Asked → Option (Setting × Setting)
 contradiction asked =
     option_and_then
-      (λ first. option_map (λ other. (first, other)) (find (λ s. is_set s asked && not (goes_with (written_of asked) asked.drawn s)) settings_of_forms))
+      (λ first. option_map (λ other. (first, other)) (find (λ s. is_set s asked && not (goes_with (written_of asked) s)) settings_of_forms))
       (deciding asked)
 
 -- the setting whose value is lacking

@@ -124,27 +124,24 @@ impl Arguments {
 
     /// The first setting that doesn't go with what is written so.
     fn misfit(&self, written: Written) -> Option<Setting>
-        ensures { result ≡ find (λ s. is_set s self.now && not (goes_with written self.now.drawn s)) settings_of_forms }
+        ensures { result ≡ find (λ s. is_set s self.now && not (goes_with written s)) settings_of_forms }
     {
         SETTINGS_OF_FORMS
             .iter()
             .copied()
-            .find(|setting| self.is_set(*setting) && !goes_with(written, self.drawn, *setting))
+            .find(|setting| self.is_set(*setting) && !goes_with(written, *setting))
     }
 }
 
 /// Says whether what is written so may be asked for with a setting.
-fn goes_with(written: Written, drawn: Option<Drawn>, setting: Setting) -> bool
-    ensures { result ≡ goes_with written drawn setting }
+fn goes_with(written: Written, setting: Setting) -> bool
+    ensures { result ≡ goes_with written setting }
 {
     match (written, setting) {
         (_, Setting::Form) => true,
-        (Written::Picture, Setting::ToSeparator) => false,
-        // Markdown has the width that it has.
-        (Written::Picture, Setting::Width) => !matches!(drawn, Some(Drawn::Markdown)),
-        (Written::Picture, _) => true,
-        (Written::Csv, Setting::ToSeparator) => true,
-        _ => false,
+        (Written::Script, _) => false,
+        (Written::Picture, _) => setting != Setting::ToSeparator,
+        (Written::Csv, _) => setting == Setting::ToSeparator,
     }
 }
 

@@ -365,10 +365,6 @@ fn what_cannot_be_asked_is_refused(rt: HostRuntime) -> Result<(), Fail> {
             "--to-separator|tab|--align|l|--draw",
             "--draw and --to-separator contradict each other",
         ),
-        (
-            "--width|9|--style|markdown",
-            "--style and --width contradict each other",
-        ),
     ] {
         let mut errors = Vec::new(alloc);
         let status = match invocation(alloc, arguments, "") {
