@@ -4,6 +4,7 @@ pub mod Changes
 pub mod Common
 pub mod Levels
 pub mod Narrowed
+pub mod Outcomes
 pub mod OutputLines
 pub mod Rooms
 pub mod Tables

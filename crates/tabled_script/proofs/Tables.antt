@@ -1,24 +1,17 @@
 -- The table of files, with one file more.
-use Rattle.std.specs.List.{AllZip, fold}
-use Rattle.std.specs.Cmp.Lexicographic.{pointwise}
-use Rattle.std.specs.Option.{option_and_then}
-use Rattle.std.specs.Prelude.{bytes_eq, if◌then◌else◌, Bool, true, false}
-use Rattle.std.proofs.Common.{◌≡◌, ◌∙◌, ℕ, ◌<◌, ◌+◌, List, [], ◌∷◌, ◌++◌, get_or, length, take, drop, refl, ap, sym, subst, Option, Some, None, suc, map}
 use Rattle.std.proofs.lemmas.List.Sums.{fold-append}
-use Rattle.std.proofs.lemmas.Slice.Eq.{bytes_eq-Decides}
-use Rattle.std.proofs.Math.Seq.{drop-cons, take-suc}
-use Rattle.std.proofs.Common.{arith}
-use Rattle.tabled_script.specs.Inputs.{behind, joined, HasRows, HasTable, HeadsDiffer, NoRowsIn, NotBehind, NoTable}
+use Rattle.std.specs.List.{AllZip}
+use Rattle.std.specs.Option.{option_and_then}
+use Rattle.tabled_script.proofs.Common.{[], ◌++◌, ◌+◌, ◌<◌, ◌∙◌, ◌∷◌, ◌≡◌, List, None, Option, Some, ap, get_or, length, subst, sym, take, take_more, ℕ}
+use Rattle.tabled_script.specs.Inputs.{HasRows, HasTable, HeadsDiffer, NoRowsIn, NoTable, NotBehind, behind, joined}
 use Rattle.tabled_script.specs.declared.inputs.JoinError.{JoinError}
 use Rattle.tabled_script.specs.declared.inputs.JoinError.TheVariants as join_error
 use Rattle.tabled_script.specs.declared.inputs.RowsError.{RowsError}
 use Rattle.tabled_script.specs.declared.inputs.RowsError.TheVariants as rows_error
-use Rattle.tabled_script.specs.declared.inputs.SourcesError.TheVariants.{Unread, Unjoined}
-use Rattle.tabled_script.specs.declared.inputs.Source.{Source}
+use Rattle.tabled_script.specs.declared.inputs.SourcesError.TheVariants.{Unjoined, Unread}
+use Rattle.tabled_script.specs.declared.request.Source.{Source}
 
-take_one_more : {A : Type 0} (xs : List A) (i : ℕ) (d : A) → i < length xs → take (i + 1) xs ≡ take i xs ++ get_or xs i d ∷ []
-take_one_more xs i d here = let e : i + 1 ≡ suc i = omega arith in ap (λ n. take n xs) e ∙ take-suc xs i d here
-
+-- places of two lists, and one more
 module _ {A B : Type 0} (R : A → B → Type 0) where
   zip_push : (xs : List A) (ys : List B) (x : A) (y : B) → AllZip R xs ys → R x y → AllZip R (xs ++ x ∷ []) (ys ++ y ∷ [])
   zip_push [] [] x y all has = (has, tt)
@@ -27,8 +20,9 @@ module _ {A B : Type 0} (R : A → B → Type 0) where
   zip_push (a ∷ xs) (b ∷ ys) x y all has = (all.0, zip_push xs ys x y all.1 has)
 
   pub zip_more : (xs : List A) (ys : List B) (i : ℕ) (x : A) (y : B) → i < length xs → x ≡ get_or xs i x → AllZip R (take i xs) ys → R x y → AllZip R (take (i + 1) xs) (ys ++ y ∷ [])
-  zip_more xs ys i x y here is all has = subst (λ (front : List A). AllZip R front (ys ++ y ∷ [])) (ap (λ z. take i xs ++ z ∷ []) is ∙ sym (take_one_more xs i x here)) (zip_push (take i xs) ys x y all has)
+  zip_more xs ys i x y here is all has = subst (λ (front : List A). AllZip R front (ys ++ y ∷ [])) (ap (λ z. take i xs ++ z ∷ []) is ∙ sym (take_more xs i x here)) (zip_push (take i xs) ys x y all has)
 
+-- one more table behind the others
 pub joined-more : (tables : List (List (List (List ℕ)))) (whole rows : List (List (List ℕ))) → joined tables ≡ Some whole → joined (tables ++ rows ∷ []) ≡ behind whole rows
 joined-more tables whole rows is = fold-append (λ (before : Option (List (List (List ℕ)))) (rows : List (List (List ℕ))). option_and_then (λ whole. behind whole rows) before) (Some []) tables (rows ∷ []) ∙ ap (λ (before : Option (List (List (List ℕ)))). option_and_then (λ whole. behind whole rows) before) is
 
@@ -47,7 +41,7 @@ module _ (sources : List Source) (i : ℕ) (source : Source) (here : i < length 
   }
 
   -- why there is no table, where one more file has no rows, or they don't stand behind those before
-  pub unread : (index : ℕ) (error : RowsError) → NoRowsIn source error → NoTable sources (Unread index error)
+  pub unread : (index : ℕ) (error : RowsError) → NoRowsIn source.format source.bytes.items error → NoTable sources (Unread index error)
   unread index (rows_error.Faulty line fault) none = record { index = i; within = here; source = source; is = is; line = line; fault = fault; faulty = none }
   unread index rows_error.OutOfMemory none = tt
 

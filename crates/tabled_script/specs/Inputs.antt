@@ -1,6 +1,7 @@
 -- The rows of files, and the table of all of them, one behind another.
 use Rattle.std.specs.Prelude.{◌≡◌, ◌<◌, ℕ, if◌then◌else◌, List, [], ◌∷◌, ◌++◌, get_or, length, take, Option, None, Some, bytes_eq}
-use Rattle.std.specs.List.{AllZip, fold, pointwise}
+use Rattle.std.specs.Cmp.Lexicographic.{pointwise}
+use Rattle.std.specs.List.{AllZip, fold}
 use Rattle.std.specs.Option.{option_and_then}
 use Rattle.tabled_csv.specs.Faults.{IsFault}
 use Rattle.tabled_csv.specs.Grammar.{IsCsv}

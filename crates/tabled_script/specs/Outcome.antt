@@ -8,6 +8,10 @@ use Rattle.tabled_script.specs.Answer.{IsUndrawn, ShowsState, ended, fault_line,
 use Rattle.tabled_script.specs.Inputs.{HasFaulty, HasTable, HeadsDiffer}
 use Rattle.tabled_script.specs.Status.{done, failed, faulty, out_of_memory}
 use Rattle.tabled_script.specs.declared.form.Form.{Form}
+use Rattle.tabled_script.specs.declared.inputs.JoinError.TheVariants as join_error
+use Rattle.tabled_script.specs.declared.inputs.RowsError.TheVariants as rows_error
+use Rattle.tabled_script.specs.declared.inputs.SourcesError.{SourcesError}
+use Rattle.tabled_script.specs.declared.inputs.SourcesError.TheVariants.{Unread, Unjoined}
 use Rattle.tabled_script.specs.declared.outcome.Outcome.{Outcome}
 use Rattle.tabled_script.specs.declared.outcome.Outcome.TheVariants.{Written, Faulty, TooNarrow, OutOfMemory, Failed}
 use Rattle.tabled_script.specs.declared.picture.TooNarrow.{TooNarrow as Narrow}
@@ -47,6 +51,13 @@ status_of (TooNarrow narrow) = faulty
 status_of OutOfMemory = out_of_memory
 status_of Failed = failed
 
+-- the status of why files have no table
+abbrev pub status_of_error : SourcesError → ℕ
+status_of_error (Unread index (rows_error.Faulty line fault)) = faulty
+status_of_error (Unread index rows_error.OutOfMemory) = out_of_memory
+status_of_error (Unjoined index (join_error.Differs head first)) = faulty
+status_of_error (Unjoined index join_error.OutOfMemory) = out_of_memory
+
 -- what an outcome says of a state and what a writer had and has
 abbrev pub ComesOfState : Form → State → Option (List ℕ) → Option (List ℕ) → Outcome → Type 0
 ComesOfState how s old new Written = ShowsState how s old new
@@ -83,14 +94,14 @@ ShowsNoTable how input old new =
     ((fault : ℕ × Fault) × (parse input ≡ Err fault) × Appends old new (fault_line fault))
     ⊎ ((script : Script) × (parse input ≡ Ok script) × IsUndrawn how (ended script))
 
--- what is written of an outcome that isn't the table: the line of a fault, and of others than want of memory nothing
-abbrev pub Tells : Outcome → Option (List ℕ) → Option (List ℕ) → Type 0
-Tells Written old new = new ≡ old
-Tells (Faulty line fault) old new = Appends old new (fault_line (line, fault))
-Tells (TooNarrow narrow) old new = new ≡ old
-Tells OutOfMemory old new = ⊥
-Tells Failed old new = ⊥
+-- a run ends with bytes and a status, unless writing failed
+abbrev pub EndsBy : List ℕ → ℕ → ℕ → Option (List ℕ) → Option (List ℕ) → Type 0
+EndsBy bytes own status old new = (status ≡ failed) ⊎ ((status ≡ own) × Appends old new bytes)
 
--- how a run ends: writing failed, or memory ran out, and that was written, or with its outcome
+-- how a run ends by its outcome: with the line of its fault, or that memory ran out, or with no more bytes
 abbrev pub Ends : Outcome → ℕ → Option (List ℕ) → Option (List ℕ) → Type 0
-Ends outcome status old new = (status ≡ failed) ⊎ (((status ≡ out_of_memory) × Appends old new memory_line) ⊎ ((status ≡ status_of outcome) × Tells outcome old new))
+Ends Written status old new = (status ≡ done) × (new ≡ old)
+Ends (Faulty line fault) status old new = EndsBy (fault_line (line, fault)) faulty status old new ⊎ EndsBy memory_line out_of_memory status old new
+Ends (TooNarrow narrow) status old new = (status ≡ faulty) × (new ≡ old)
+Ends OutOfMemory status old new = EndsBy memory_line out_of_memory status old new
+Ends Failed status old new = status ≡ failed

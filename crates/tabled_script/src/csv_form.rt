@@ -77,9 +77,9 @@ fn lent_rows<'a>(
 fn lent_row<'a>(alloc: Global, row: &[&'a str]) -> Result<Vec<LentText<'a>>, AllocError>
     ensures { IfOk result (λ lent. texts_in_row lent ≡ map text_of row.now) }
 {
-    let mut record = Vec::with_capacity(alloc, row.len())?;
+    let mut lent = Vec::with_capacity(alloc, row.len())?;
     for text in row {
-        record.push(LentText::from(*text))?;
+        lent.push(LentText::from(*text))?;
     }
-    Ok(record)
+    Ok(lent)
 }

@@ -1,6 +1,6 @@
 //! The table that a script ends with, written.
 
-ghost use Rattle.std.specs.Prelude.{◌≡◌, OnOk};
+ghost use Rattle.std.specs.Prelude.{◌≡◌, IfOk};
 ghost use Rattle.tabled_grid.specs.Grid.{IsEven, grid_of, map_items};
 ghost use Rattle.tabled_language.specs.Lent.{texts_in_records};
 ghost use Rattle.tabled_language.specs.Parsing.{cell_texts};
@@ -8,7 +8,6 @@ ghost use Rattle.tabled_language.specs.Script.{parse_between};
 ghost use Rattle.tabled_script.specs.Answer.{ended};
 ghost use Rattle.tabled_script.specs.InMemory.{said_by, state_in};
 ghost use Rattle.tabled_script.specs.Outcome.{Comes, ComesOfState};
-ghost use Rattle.tabled_steps.specs.States.{after_all};
 
 use crate::checked::run_checked;
 use crate::inputs::lent_words;
@@ -93,8 +92,10 @@ fn state_at_end<'a, E: Write>(
             lines,
             errors,
         )?;
-    } else if let Err((_, error)) = run(alloc, &mut records, &mut spans, steps) {
-        return Err(error);
+        return Ok((records, spans));
     }
-    Ok((records, spans))
+    match run(alloc, &mut records, &mut spans, steps) {
+        Ok(()) => Ok((records, spans)),
+        Err((_, error)) => Err(error),
+    }
 }

@@ -1,12 +1,13 @@
 //! The rows of files, one behind another, and steps as lists of words.
 
-ghost use Rattle.std.specs.List.{pointwise};
-ghost use Rattle.std.specs.Prelude.{◌≡◌, IfOk, MatchResult, map};
+ghost use Rattle.std.specs.Cmp.Lexicographic.{pointwise};
+ghost use Rattle.std.specs.Prelude.{◌≡◌, IfOk, MatchResult, Some, map};
 ghost use Rattle.std.specs.Str.{bytes_eq};
 ghost use Rattle.std.specs.String.{string_bytes};
 ghost use Rattle.tabled_language.specs.Lent.{bytes_of, texts_in_records, texts_in_row};
 ghost use Rattle.tabled_language.specs.Parsing.{cell_texts};
-ghost use Rattle.tabled_script.specs.Inputs.{HasRows, HasTable, NoTable, NoRows, NotBehind, behind};
+ghost use Rattle.tabled_script.specs.Inputs.{HasRows, HasTable, NoRowsIn, NoTable, NotBehind, behind};
+ghost use Rattle.tabled_script.specs.Outcome.{status_of_error};
 
 use crate::csv_form::csv_rows;
 use crate::outcome::{FAULTY, OUT_OF_MEMORY};
@@ -51,7 +52,9 @@ pub(crate) enum SourcesError<'a> {
 }
 
 impl SourcesError<'_> {
-    pub(crate) fn status(&self) -> u8 {
+    pub(crate) fn status(&self) -> u8
+        ensures { result ≡ status_of_error self.now }
+    {
         match self {
             SourcesError::Unread(_, RowsError::OutOfMemory)
             | SourcesError::Unjoined(_, JoinError::OutOfMemory) => OUT_OF_MEMORY,
@@ -90,7 +93,7 @@ fn rows_of<'a>(
     source: &'a Source,
     spare: &mut Spare<'a>,
 ) -> Result<Vec<Vec<LentText<'a>>>, RowsError>
-    ensures { MatchResult result (λ rows. HasRows source.now (texts_in_records rows.items)) (NoRows source.now) }
+    ensures { MatchResult result (λ rows. HasRows source.now (texts_in_records rows.items)) (NoRowsIn source.now.format source.now.bytes.items) }
 {
     match source.format {
         Format::Csv(separator) => csv_rows(alloc, separator, &source.bytes, spare),

@@ -6,7 +6,7 @@ ghost use Rattle.std.specs.String.{string_bytes};
 ghost use Rattle.tabled_script.specs.Again.{FitsAtEnd, GivesAgain};
 ghost use Rattle.tabled_script.specs.Answer.{ShowsState, ended, fault_line, memory_line, output_of, picture_of};
 ghost use Rattle.tabled_script.specs.Inputs.{HasTable};
-ghost use Rattle.tabled_script.specs.Outcome.{Ends, FindsNoTable, ShowsNoTable, ShowsTable};
+ghost use Rattle.tabled_script.specs.Outcome.{Ends, EndsBy, FindsNoTable, ShowsNoTable, ShowsTable};
 ghost use Rattle.tabled_script.specs.Status.{IsStatus, done, faulty, out_of_memory};
 ghost use Rattle.tabled_language.specs.Parsing.{cell_texts};
 ghost use Rattle.tabled_language.specs.Script.{Script as Meaning, parse, parse_between};
@@ -149,15 +149,21 @@ fn run_to_form<R: Read, W: Write>(alloc: Global, form: Form, reader: &mut R, wri
 pub(crate) fn write_end<W: Write>(alloc: Global, outcome: Outcome, writer: &mut W) -> u8
     ensures { Ends outcome result (W.contents writer.old) (W.contents writer.new) }
 {
-    let (written, status) = match outcome {
+    match outcome {
         Outcome::Faulty(line, fault) => match fault_line(alloc, (line, fault)) {
-            Ok(text) => (write_whole(writer, text.as_bytes()), FAULTY),
-            Err(_) => (write_whole(writer, MEMORY_LINE), OUT_OF_MEMORY),
+            Ok(text) => write_status(writer, text.as_bytes(), FAULTY),
+            Err(_) => write_status(writer, MEMORY_LINE, OUT_OF_MEMORY),
         },
-        Outcome::OutOfMemory => (write_whole(writer, MEMORY_LINE), OUT_OF_MEMORY),
-        Outcome::Written | Outcome::TooNarrow(_) | Outcome::Failed => return outcome.status(),
-    };
-    match written {
+        Outcome::OutOfMemory => write_status(writer, MEMORY_LINE, OUT_OF_MEMORY),
+        Outcome::Written | Outcome::TooNarrow(_) | Outcome::Failed => outcome.status(),
+    }
+}
+
+/// Writes bytes, flushes the writer, and answers a status, or that writing failed.
+fn write_status<W: Write>(writer: &mut W, bytes: &[u8], status: u8) -> u8
+    ensures { EndsBy bytes.now status result (W.contents writer.old) (W.contents writer.new) }
+{
+    match write_whole(writer, bytes) {
         Ok(()) => status,
         Err(_) => FAILED,
     }

@@ -1,0 +1,84 @@
+-- What outcomes say.
+use Rattle.std.specs.Io.KnownBytes.{Appends}
+use Rattle.tabled_language.specs.declared.fault.Fault.{Fault}
+use Rattle.tabled_script.proofs.Common.{◌≡◌, ◌⊎◌, Err, List, Ok, Option, Result, Script, State, arith, ended, inl, inr, subst, ℕ}
+use Rattle.std.specs.Result.{OnErr}
+use Rattle.tabled_script.specs.Answer.{IsUndrawn, ShowsState, fault_line, memory_line}
+use Rattle.tabled_script.specs.Inputs.{HasFaulty, HeadsDiffer, NoTable}
+use Rattle.tabled_script.specs.Outcome.{Comes, ComesOfState, Ends, GivesNoTable, IfDrawn, IfUndrawn, IfWritten, outcome_of_drawing, outcome_of_writing, status_of, status_of_error}
+use Rattle.tabled_script.specs.Status.{done, faulty, out_of_memory}
+use Rattle.tabled_script.specs.declared.form.Form.{Form}
+use Rattle.tabled_script.specs.declared.inputs.JoinError.TheVariants as join_error
+use Rattle.tabled_script.specs.declared.inputs.RowsError.TheVariants as rows_error
+use Rattle.tabled_script.specs.declared.inputs.SourcesError.{SourcesError}
+use Rattle.tabled_script.specs.declared.inputs.SourcesError.TheVariants.{Unjoined, Unread}
+use Rattle.tabled_script.specs.declared.outcome.Outcome.{Outcome}
+use Rattle.tabled_script.specs.declared.outcome.Outcome.TheVariants.{Failed, Faulty, OutOfMemory, TooNarrow, Written}
+use Rattle.tabled_script.specs.declared.picture.TooNarrow.{TooNarrow as Narrow}
+
+module _ (how : Form) (s : State) (old new : Option (List ℕ)) where
+  -- of a table that was written, or wasn't
+  pub of_writing : {U E A : Type 0} (r : Result (Result U E) A) (P : Type 0) → (P → ShowsState how s old new) → IfWritten r P → OnErr r (new ≡ old) → ComesOfState how s old new (outcome_of_writing r)
+  of_writing (Ok (Ok u)) P shows written left = shows written
+  of_writing (Ok (Err e)) P shows written left = tt
+  of_writing (Err e) P shows written left = left
+
+  -- of one of which two facts are known
+  pub of_writing_both : {U E A : Type 0} (r : Result (Result U E) A) (P Q : Type 0) → (P → Q → ShowsState how s old new) → IfWritten r P → IfWritten r Q → OnErr r (new ≡ old) → ComesOfState how s old new (outcome_of_writing r)
+  of_writing_both (Ok (Ok u)) P Q shows one other left = shows one other
+  of_writing_both (Ok (Err e)) P Q shows one other left = tt
+  of_writing_both (Err e) P Q shows one other left = left
+
+  -- of a picture that was drawn, or wasn't
+  pub of_drawing : {U E A : Type 0} (r : Result (Result (Result U E) Narrow) A) (P Q : Type 0) → (P → ShowsState how s old new) → (Q → IsUndrawn how s) → IfDrawn r P → IfUndrawn r (λ narrow. Q) → IfUndrawn r (λ narrow. new ≡ old) → OnErr r (new ≡ old) → ComesOfState how s old new (outcome_of_drawing r)
+  of_drawing (Ok (Ok (Ok u))) P Q shows undrawn drawn none same left = shows drawn
+  of_drawing (Ok (Ok (Err e))) P Q shows undrawn drawn none same left = tt
+  of_drawing (Ok (Err narrow)) P Q shows undrawn drawn none same left = (undrawn none, same)
+  of_drawing (Err e) P Q shows undrawn drawn none same left = left
+
+-- of the state that a script ends with
+pub of_end : (how : Form) (read : Result Script (ℕ × Fault)) (script : Script) (old new : Option (List ℕ)) (outcome : Outcome) → read ≡ Ok script → ComesOfState how (ended script) old new outcome → Comes how read old new outcome
+of_end how read script old new Written is shows = (script, is, shows)
+of_end how read script old new (Faulty line fault) is none = absurd none
+of_end how read script old new (TooNarrow narrow) is undrawn = (script, is, undrawn.0, undrawn.1)
+of_end how read script old new OutOfMemory is same = same
+of_end how read script old new Failed is any = tt
+
+-- by its status
+module _ (how : Form) (read : Result Script (ℕ × Fault)) (old new : Option (List ℕ)) where
+  pub is_done : (outcome : Outcome) → Comes how read old new outcome → status_of outcome ≡ done → (script : Script) × (read ≡ Ok script) × ShowsState how (ended script) old new
+  is_done Written comes is = comes
+  is_done (Faulty line fault) comes is = absurd (omega (arith, is))
+  is_done (TooNarrow narrow) comes is = absurd (omega (arith, is))
+  is_done OutOfMemory comes is = absurd (omega (arith, is))
+  is_done Failed comes is = absurd (omega (arith, is))
+
+  pub is_faulty : (outcome : Outcome) → Comes how read old new outcome → status_of outcome ≡ faulty → (new ≡ old) × GivesNoTable how read
+  is_faulty Written comes is = absurd (omega (arith, is))
+  is_faulty (Faulty line fault) comes is = (comes.1, inl ((line, fault), comes.0))
+  is_faulty (TooNarrow narrow) comes is = (comes.3, inr (comes.0, comes.1, comes.2))
+  is_faulty OutOfMemory comes is = absurd (omega (arith, is))
+  is_faulty Failed comes is = absurd (omega (arith, is))
+
+  pub is_out_of_memory : (outcome : Outcome) → Comes how read old new outcome → status_of outcome ≡ out_of_memory → new ≡ old
+  is_out_of_memory Written comes is = absurd (omega (arith, is))
+  is_out_of_memory (Faulty line fault) comes is = absurd (omega (arith, is))
+  is_out_of_memory (TooNarrow narrow) comes is = absurd (omega (arith, is))
+  is_out_of_memory OutOfMemory comes is = comes
+  is_out_of_memory Failed comes is = absurd (omega (arith, is))
+
+-- why files have no table, where that is no want of memory
+pub faulty_files : (sources : List _) (error : SourcesError) → NoTable sources error → status_of_error error ≡ faulty → HasFaulty sources ⊎ HeadsDiffer sources
+faulty_files sources (Unread index (rows_error.Faulty line fault)) none is = inl none
+faulty_files sources (Unread index rows_error.OutOfMemory) none is = absurd (omega (arith, is))
+faulty_files sources (Unjoined index (join_error.Differs head first)) none is = inr none
+faulty_files sources (Unjoined index join_error.OutOfMemory) none is = absurd (omega (arith, is))
+
+-- how a run ends, by the status that it ends with
+module _ (how : Form) (read : Result Script (ℕ × Fault)) (old mid new : Option (List ℕ)) (status : ℕ) where
+  pub ends_done : (outcome : Outcome) → Comes how read old mid outcome → Ends outcome status mid new → status ≡ done → (script : Script) × (read ≡ Ok script) × ShowsState how (ended script) old new
+  ends_done Written comes ends is = (comes.0, comes.1, subst (λ it. ShowsState how (ended comes.0) old it) (cc (ends.1)) comes.2)
+  ends_done (Faulty line fault) comes ends is = absurd (grind (arith, is, ends))
+  ends_done (TooNarrow narrow) comes ends is = absurd (omega (arith, is, ends.0))
+  ends_done OutOfMemory comes ends is = absurd (grind (arith, is, ends))
+  ends_done Failed comes ends is = absurd (omega (arith, is, ends))
