@@ -8,6 +8,7 @@ pub mod Outcomes
 pub mod OutputLines
 pub mod Rooms
 pub mod Tables
+pub mod Taken
 pub mod Texts
 pub mod Told
 pub mod Works

@@ -136,6 +136,7 @@ impl Arguments {
     }
 
     /// Takes an option by itself.
+    #[tactic(auto, using(crate::proofs::Taken::refused_for))]
     fn with_option(mut self, alloc: Global, option: &str) -> Result<Self, Refusal>
         ensures { Takes (with_option (named_in options option.now) option.now self) result }
     {
@@ -157,6 +158,7 @@ impl Arguments {
     }
 
     /// Takes an option with its value.
+    #[tactic(auto, using(crate::proofs::Taken::refused_for))]
     fn with_option_and_value(
         self,
         alloc: Global,
@@ -173,6 +175,7 @@ impl Arguments {
     }
 
     /// Sets a setting to a value, if it can have that and has none, and standard input is not read already.
+    #[tactic(auto, using(crate::proofs::Taken::refused_for))]
     fn with_value(
         mut self,
         alloc: Global,
@@ -252,6 +255,7 @@ impl Arguments {
     }
 
     /// Adds a word to the steps, or ends one.
+    #[tactic(auto, using(crate::proofs::Taken::refused_for))]
     fn with_word(mut self, alloc: Global, word: &str) -> Result<Self, Refusal>
         ensures { Takes (with_word word.now self) result }
     {
@@ -268,6 +272,7 @@ impl Arguments {
     }
 
     /// Ends the step that has not ended, if it has words.
+    #[tactic(auto, using(crate::proofs::Taken::no_step, crate::proofs::Taken::one_step))]
     pub(crate) fn end_step(&mut self, alloc: Global) -> Result<(), AllocError>
         ensures { OnOk result (self.new ≡ step_ended self.old) }
     {
