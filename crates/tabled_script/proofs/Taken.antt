@@ -1,10 +1,18 @@
 -- Arguments that are taken, or refused.
-use Rattle.std.specs.Prelude.{Err, Result, String}
-use Rattle.tabled_script.proofs.Common.{[], ◌∷◌, ◌≡◌, List, Global, inl, inr, length, map, refl, ℕ}
+use Rattle.std.specs.Prelude.{Bool, Err, Ok, Result, String, false, if◌then◌else◌}
 use Rattle.std.specs.String.{string_bytes}
-use Rattle.tabled_script.specs.Arguments.{Asked, Blamed, step_of}
+use Rattle.tabled_script.proofs.Common.{[], ◌∙◌, ◌∷◌, ◌≡◌, Global, List, ap, inl, inr, length, map, refl, sym, ℕ}
+use Rattle.tabled_script.specs.Arguments.{Asked, Blamed, expect, has_taken, set_to, step_of, with_first_value}
 use Rattle.tabled_script.specs.Refusals.{IsRefused, Refuses, Takes}
+use Rattle.tabled_script.specs.declared.arguments.Next.TheVariants as next
+use Rattle.tabled_script.specs.declared.refusal.Misuse.TheVariants as misuse
 use Rattle.tabled_script.specs.declared.refusal.Refusal.{Refusal}
+use Rattle.tabled_script.specs.declared.setting.Setting.{Setting}
+
+pub wrong_value : (setting : Setting) (value : List ℕ) (asked after : Asked) → after ≡ set_to setting value asked → has_taken setting value after ≡ false
+    → with_first_value setting value asked ≡ Err (misuse.WrongValue setting, value)
+wrong_value setting value asked after is none =
+    ap (λ (b : Bool). if b then Ok (expect next.Option (set_to setting value asked)) else Err (misuse.WrongValue setting, value)) (ap (has_taken setting value) (sym is) ∙ none)
 
 pub refused_for : (expected : Result Asked Blamed) (blamed : Blamed) (refused : Refusal) → IsRefused blamed refused → expected ≡ Err blamed → Takes expected (Err refused)
 refused_for expected blamed refused (inl memory) is = inl memory

@@ -93,13 +93,22 @@ has_taken setting value asked = is_set setting asked
 abbrev pub expect : Next → Asked → Asked
 expect what asked = record asked { next = what }
 
+-- what is asked for once a setting is set to a value, if it can have that
+abbrev pub with_first_value : Setting → List ℕ → Asked → Result Asked Blamed
+with_first_value setting value asked =
+    if has_taken setting value (set_to setting value asked) then Ok (expect next.Option (set_to setting value asked))
+    else Err (misuse.WrongValue setting, value)
+
+-- the value names standard input as a file that is read, and that is read already
+abbrev pub reads_input_again : Setting → List ℕ → Asked → Bool
+reads_input_again setting value asked = asked.reads_input && (names_input setting && is_input value)
+
 -- what is asked for once a setting is set to a value: once at most, and standard input is read once
 abbrev pub with_value : Setting → List ℕ → Asked → Result Asked Blamed
 with_value setting value asked =
     if is_set setting asked then Err (misuse.Repeated setting, value)
-    else (if names_input setting && (is_input value && asked.reads_input) then Err (misuse.InputRepeated, value)
-    else (if has_taken setting value (set_to setting value asked) then Ok (expect next.Option (set_to setting value asked))
-    else Err (misuse.WrongValue setting, value)))
+    else (if reads_input_again setting value asked then Err (misuse.InputRepeated, value)
+    else with_first_value setting value asked)
 
 -- what is asked for once an option stands there by itself: what is behind it is its value, unless it takes none
 abbrev pub with_option : Option Setting → List ℕ → Asked → Result Asked Blamed

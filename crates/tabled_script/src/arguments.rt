@@ -3,7 +3,7 @@
 ghost use Rattle.std.specs.Option.{option_map};
 ghost use Rattle.std.specs.Prelude.{◌≡◌, IfOk, OnOk};
 ghost use Rattle.std.specs.String.{string_bytes};
-ghost use Rattle.tabled_script.specs.Arguments.{file_named, has_taken, is_input, is_set, names_input, set_to, step_ended, taken, with_dashed, with_option, with_option_and_value, with_value, with_word};
+ghost use Rattle.tabled_script.specs.Arguments.{file_named, has_taken, is_input, is_set, names_input, reads_input_again, set_to, step_ended, taken, with_dashed, with_first_value, with_option, with_option_and_value, with_value, with_word};
 ghost use Rattle.tabled_script.specs.Refusals.{IsRefused, Takes};
 ghost use Rattle.tabled_script.specs.Requests.{nothing_asked};
 ghost use Rattle.tabled_script.specs.Settings.{named_in, options};
@@ -176,26 +176,41 @@ impl Arguments {
 
     /// Sets a setting to a value, if it can have that and has none, and standard input is not read already.
     #[tactic(auto, using(crate::proofs::Taken::refused_for))]
-    fn with_value(
-        mut self,
-        alloc: Global,
-        setting: Setting,
-        value: &str,
-    ) -> Result<Self, Refusal>
+    fn with_value(self, alloc: Global, setting: Setting, value: &str) -> Result<Self, Refusal>
         ensures { Takes (with_value setting value.now self) result }
     {
         if self.is_set(setting) {
             return Err(misused(alloc, Misuse::Repeated(setting), value));
         }
-        if self.reads_input && names_input(setting) && is_input(value) {
+        if self.reads_input_again(setting, value) {
             return Err(misused(alloc, Misuse::InputRepeated, value));
         }
+        self.with_first_value(alloc, setting, value)
+    }
+
+    /// Sets a setting to a value, if it can have that.
+    #[tactic(auto, using(crate::proofs::Taken::refused_for, crate::proofs::Taken::wrong_value))]
+    fn with_first_value(
+        mut self,
+        alloc: Global,
+        setting: Setting,
+        value: &str,
+    ) -> Result<Self, Refusal>
+        ensures { Takes (with_first_value setting value.now self) result }
+    {
         self.set(alloc, setting, value)?;
-        if !self.has_taken(setting, value) {
-            return Err(misused(alloc, Misuse::WrongValue(setting), value));
+        if self.has_taken(setting, value) {
+            self.next = Next::Option;
+            return Ok(self);
         }
-        self.next = Next::Option;
-        Ok(self)
+        Err(misused(alloc, Misuse::WrongValue(setting), value))
+    }
+
+    /// Says whether a value names standard input as a file that is read, and that is read already.
+    fn reads_input_again(&self, setting: Setting, value: &str) -> bool
+        ensures { result ≡ reads_input_again setting value.now self.now }
+    {
+        self.reads_input && names_input(setting) && is_input(value)
     }
 
     /// Sets a setting to what a value means.

@@ -1,10 +1,11 @@
 //! Why a request isn't made of arguments, or isn't answered.
 
 ghost use Rattle.std.specs.List.{flat_map};
-ghost use Rattle.std.specs.Option.{option_map};
-ghost use Rattle.std.specs.Prelude.{◌≡◌, ◌++◌, ◌∷◌, IfOk, OnOk};
+ghost use Rattle.std.specs.Option.{option_map, unwrap_or};
+ghost use Rattle.std.specs.Prelude.{◌≡◌, ◌++◌, ◌∷◌, IfOk, OnOk, codes};
 ghost use Rattle.std.specs.String.{string_bytes};
 ghost use Rattle.tabled_script.specs.Refusals.{GetsFirst, failure_of, failure_text, meant_by, misuse_text, names_text, option_text, refusal_line, refusal_text, status_of, value_text};
+ghost use Rattle.tabled_script.specs.Settings.{read_by};
 
 use crate::outcome::{FAILED, OUT_OF_MEMORY};
 use crate::setting::{FORMS, OPTIONS, Setting, read_by};
@@ -181,9 +182,19 @@ fn misuse_text(alloc: Global, misuse: Misuse, argument: &str) -> Result<String, 
             format!(in alloc; "standard input is read once: - stands here twice")
         }
         Misuse::FileAsStep => {
-            let options = read_by(argument).unwrap_or("--csv");
+            let options = reading_options(argument);
             format!(in alloc; "{argument} is a file: {options} {argument}")
         }
+    }
+}
+
+/// The options that read a file, as its name ends.
+fn reading_options(name: &str) -> &'static str
+    ensures { result.now ≡ unwrap_or (read_by name.now) (codes "--csv") }
+{
+    match read_by(name) {
+        Some(options) => options,
+        None => "--csv",
     }
 }
 
