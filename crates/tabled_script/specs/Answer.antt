@@ -7,12 +7,14 @@ use Rattle.tabled_csv.specs.Writing.{csv_of}
 use Rattle.tabled_draw.specs.Markdown.{markdown}
 use Rattle.tabled_draw.specs.Picture.{drawn, drawn_with}
 use Rattle.tabled_grid.specs.Fitting.{Fits}
+use Rattle.tabled_html.specs.Elements.{html}
 use Rattle.tabled_language.specs.Faults.{fault_number}
 use Rattle.tabled_language.specs.Script.{Script, start}
 use Rattle.tabled_language.specs.declared.fault.Fault.{Fault}
 use Rattle.tabled_language.specs.Output.{print}
 use Rattle.tabled_language.specs.RoundTrip.{IsTable}
 use Rattle.tabled_script.specs.Narrow.{IsNarrowPicture, narrowed}
+use Rattle.tabled_script.specs.Html.{ShowsGrid, look_of}
 use Rattle.tabled_script.specs.declared.form.Form.{Form}
 use Rattle.tabled_script.specs.declared.form.Form.TheVariants as form
 use Rattle.tabled_steps.specs.States.{State}
@@ -40,6 +42,7 @@ IsWrittenAs (form.Picture style alignments) s bytes = bytes ≡ drawn_with style
 IsWrittenAs (form.NarrowPicture width style alignments) s bytes = IsNarrowPicture width style alignments.items s.texts s.spans bytes
 IsWrittenAs (form.Markdown alignments) s bytes = bytes ≡ markdown alignments.items s.texts s.spans
 IsWrittenAs (form.Csv separator) s bytes = bytes ≡ csv_of separator s.texts.cells
+IsWrittenAs (form.Html page) s bytes = bytes ≡ html s.texts s.spans (look_of page)
 
 -- no picture of a state is as narrow as is asked for
 abbrev pub IsUndrawn : Form → State → Type 0
@@ -48,6 +51,7 @@ IsUndrawn (form.Picture style alignments) s = ⊥
 IsUndrawn (form.NarrowPicture width style alignments) s = narrowed width style s.spans s.texts ≡ None
 IsUndrawn (form.Markdown alignments) s = ⊥
 IsUndrawn (form.Csv separator) s = ⊥
+IsUndrawn (form.Html page) s = ⊥
 
 -- `line N: fault K`
 abbrev pub fault_line : ℕ × Fault → List ℕ
@@ -68,6 +72,7 @@ known_as (form.Picture style alignments) s = Unit {0}
 known_as (form.NarrowPicture width style alignments) s = Unit {0}
 known_as (form.Markdown alignments) s = Unit {0}
 known_as (form.Csv separator) s = Unit {0}
+known_as (form.Html page) s = ShowsGrid page s.texts s.spans
 
 -- a state was written in a form, and what is known of it then
 abbrev pub ShowsState : Form → State → Option (List ℕ) → Option (List ℕ) → Type 0

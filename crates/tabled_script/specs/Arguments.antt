@@ -28,6 +28,8 @@ pub record Asked : Type 0 where
   pub sources : List (Kind × List ℕ)
   pub separator : Option ℕ
   pub to_separator : Option ℕ
+  pub header : Option ℕ
+  pub caption : Option (List ℕ)
   pub script : Option (List ℕ)
   pub output : Option (List ℕ)
   pub reads_input : Bool
@@ -51,6 +53,8 @@ is_set setting.Columns asked = is_some asked.columns
 is_set (setting.Rows kind) asked = false
 is_set setting.Separator asked = is_some asked.separator
 is_set setting.ToSeparator asked = is_some asked.to_separator
+is_set setting.Header asked = is_some asked.header
+is_set setting.Caption asked = is_some asked.caption
 is_set setting.Script asked = is_some asked.script
 is_set setting.Output asked = is_some asked.output
 is_set setting.Checks asked = asked.checks_steps
@@ -79,6 +83,8 @@ set_to setting.Columns number asked = record asked { columns = length_of number 
 set_to (setting.Rows kind) name asked = record asked { sources = asked.sources ++ (kind, name) ∷ []; reads_input = asked.reads_input || is_input name }
 set_to setting.Separator name asked = record asked { separator = separator_of name }
 set_to setting.ToSeparator name asked = record asked { to_separator = separator_of name }
+set_to setting.Header number asked = record asked { header = length_of number }
+set_to setting.Caption text asked = record asked { caption = Some text }
 set_to setting.Script name asked = record asked { script = file_named name; reads_input = asked.reads_input || is_input name }
 set_to setting.Output name asked = record asked { output = file_named name }
 set_to setting.Picture value asked = asked

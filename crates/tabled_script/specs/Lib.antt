@@ -2,6 +2,7 @@ pub mod Again
 pub mod Answer
 pub mod Arguments
 pub mod Cuts
+pub mod Html
 pub mod InMemory
 pub mod Inputs
 pub mod Limits

@@ -10,6 +10,7 @@ use Rattle.tabled_script.specs.declared.arguments.Next.{Next}
 use Rattle.tabled_script.specs.declared.arguments.Next.TheVariants as next
 use Rattle.tabled_script.specs.declared.form.Form.{Form}
 use Rattle.tabled_script.specs.declared.form.Form.TheVariants as form
+use Rattle.tabled_script.specs.declared.html_form.HtmlPage.{HtmlPage}
 use Rattle.tabled_script.specs.declared.invocation.Invocation.{Invocation}
 use Rattle.tabled_script.specs.declared.refusal.Refusal.{Refusal}
 use Rattle.tabled_script.specs.declared.refusal.Refusal.TheVariants.{Contradictory, Failed, Misused, NoValue, NotText, OutOfMemory, Terminal}
@@ -38,6 +39,8 @@ nothing_asked = record {
   sources = [];
   separator = None;
   to_separator = None;
+  header = None;
+  caption = None;
   script = None;
   output = None;
   reads_input = false;
@@ -48,7 +51,7 @@ nothing_asked = record {
 
 -- the settings that say what a table is written as, in the order in which they are named
 abbrev pub settings_of_forms : List Setting
-settings_of_forms = setting.Form ∷ setting.Style ∷ setting.Picture ∷ setting.Alignments ∷ setting.Width ∷ setting.ToSeparator ∷ []
+settings_of_forms = setting.Form ∷ setting.Header ∷ setting.Caption ∷ setting.Style ∷ setting.Picture ∷ setting.Alignments ∷ setting.Width ∷ setting.ToSeparator ∷ []
 
 -- the first of them that is set
 abbrev pub deciding : Asked → Option Setting
@@ -59,20 +62,33 @@ abbrev pub written_by : Option Setting → Option Written → Written
 written_by None how = written.Script
 written_by (Some setting.Form) how = unwrap_or how written.Script
 written_by (Some setting.ToSeparator) how = written.Csv
+written_by (Some setting.Header) how = written.Html
+written_by (Some setting.Caption) how = written.Html
 written_by (Some other) how = written.Picture
 
 -- what the table is written as
 abbrev pub written_of : Asked → Written
 written_of asked = written_by (deciding asked) asked.written
 
+-- the setting says how HTML is written
+abbrev pub says_html : Setting → Bool
+says_html setting.Header = true
+says_html setting.Caption = true
+says_html setting.Alignments = true
+says_html _ = false
+
 -- what is written so may be asked for with a setting
 abbrev pub goes_with : Written → Setting → Bool
 goes_with _ setting.Form = true
 goes_with written.Script _ = false
 goes_with written.Picture setting.ToSeparator = false
+goes_with written.Picture setting.Header = false
+goes_with written.Picture setting.Caption = false
 goes_with written.Picture _ = true
 goes_with written.Csv setting.ToSeparator = true
 goes_with written.Csv _ = false
+goes_with written.Html setting = says_html setting
+goes_with written.HtmlPage setting = says_html setting
 
 -- two settings that contradict each other
 abbrev pub contradiction : Asked → Option (Setting × Setting)
@@ -116,9 +132,24 @@ IsForm how look width alignments separator (form.NarrowPicture columns style ali
     (how ≡ written.Picture) × (look ≡ drawn.Style style) × (width ≡ Some columns) × (alignments ≡ aligned.items)
 IsForm how look width alignments separator (form.Markdown aligned) = (how ≡ written.Picture) × (look ≡ drawn.Markdown) × (alignments ≡ aligned.items)
 IsForm how look width alignments separator (form.Csv byte) = (how ≡ written.Csv) × (separator ≡ byte)
+IsForm how look width alignments separator (form.Html page) = ⊥
+
+-- it is HTML, and whether that is a page of its own
+abbrev pub IsHtml : Written → Bool → Type 0
+IsHtml written.Html is_whole = is_whole ≡ false
+IsHtml written.HtmlPage is_whole = is_whole ≡ true
+IsHtml _ is_whole = ⊥
+
+-- HTML has the header, the caption and the alignments that are asked for
+pub record AsksHtml (asked : Asked) (page : HtmlPage) : Type 0 where
+  pub how : IsHtml (written_of asked) page.is_whole
+  pub header : page.header ≡ unwrap_or asked.header 0
+  pub caption : option_map string_bytes page.caption ≡ asked.caption
+  pub alignments : page.alignments.items ≡ unwrap_or asked.alignments []
 
 -- the table is written in the form that is asked for
 abbrev pub AsksForm : Asked → Form → Type 0
+AsksForm asked (form.Html page) = AsksHtml asked page
 AsksForm asked form =
     IsForm (written_of asked) (drawn_of asked) (width_of asked) (unwrap_or asked.alignments []) (unwrap_or asked.to_separator (separator_of asked)) form
 

@@ -26,6 +26,8 @@ name_of setting.Columns = codes "--columns"
 name_of (setting.Rows kind.Csv) = codes "--csv"
 name_of setting.Separator = codes "--separator"
 name_of setting.ToSeparator = codes "--to-separator"
+name_of setting.Header = codes "--header"
+name_of setting.Caption = codes "--caption"
 name_of setting.Script = codes "--script"
 name_of setting.Output = codes "--output"
 name_of setting.Checks = codes "--check"
@@ -42,6 +44,8 @@ options =
     ∷ (codes "--csv", setting.Rows kind.Csv)
     ∷ (codes "--separator", setting.Separator)
     ∷ (codes "--to-separator", setting.ToSeparator)
+    ∷ (codes "--header", setting.Header)
+    ∷ (codes "--caption", setting.Caption)
     ∷ (codes "--script", setting.Script)
     ∷ (codes "--output", setting.Output)
     ∷ (codes "-o", setting.Output)
@@ -50,7 +54,7 @@ options =
 
 -- what a table is written as, by name
 abbrev pub forms : List (List ℕ × Written)
-forms = (codes "script", written.Script) ∷ (codes "csv", written.Csv) ∷ []
+forms = (codes "script", written.Script) ∷ (codes "csv", written.Csv) ∷ (codes "html", written.Html) ∷ (codes "html-page", written.HtmlPage) ∷ []
 
 -- what a list has for a name
 abbrev pub named_in : {A : Type 0} → List (List ℕ × A) → List ℕ → Option A

@@ -45,6 +45,8 @@ pub struct Arguments {
     pub(crate) sources: Vec<(Kind, String)>,
     pub(crate) separator: Option<Separator>,
     pub(crate) to_separator: Option<Separator>,
+    pub(crate) header: Option<usize>,
+    pub(crate) caption: Option<String>,
     pub(crate) script: Option<String>,
     pub(crate) output: Option<String>,
     /// Whether standard input is one of the files that are read.
@@ -75,6 +77,8 @@ impl Model for Arguments {
       sources = map (λ source. (source.0, string_bytes source.1)) a.sources.items;
       separator = a.separator;
       to_separator = a.to_separator;
+      header = a.header;
+      caption = option_map string_bytes a.caption;
       script = option_map string_bytes a.script;
       output = option_map string_bytes a.output;
       reads_input = a.reads_input;
@@ -100,6 +104,8 @@ impl Arguments {
             sources: Vec::new(alloc),
             separator: None,
             to_separator: None,
+            header: None,
+            caption: None,
             script: None,
             output: None,
             reads_input: false,
@@ -225,6 +231,8 @@ impl Arguments {
             Setting::Columns => self.columns = length_of(value),
             Setting::Separator => self.separator = separator_of(value),
             Setting::ToSeparator => self.to_separator = separator_of(value),
+            Setting::Header => self.header = length_of(value),
+            Setting::Caption => self.caption = Some(String::from_str(alloc, value)?),
             Setting::Output => self.output = file_named(alloc, value)?,
             Setting::Script => {
                 self.script = file_named(alloc, value)?;
@@ -263,6 +271,8 @@ impl Arguments {
             Setting::Rows(_) => false,
             Setting::Separator => self.separator.is_some(),
             Setting::ToSeparator => self.to_separator.is_some(),
+            Setting::Header => self.header.is_some(),
+            Setting::Caption => self.caption.is_some(),
             Setting::Script => self.script.is_some(),
             Setting::Output => self.output.is_some(),
             Setting::Checks => self.checks_steps,

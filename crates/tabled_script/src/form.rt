@@ -5,6 +5,7 @@ ghost use Rattle.tabled_script.specs.InMemory.{state_in};
 ghost use Rattle.tabled_script.specs.Outcome.{ComesOfState};
 
 use crate::csv_form::write_csv;
+use crate::html_form::{HtmlPage, write_html};
 use crate::outcome::Outcome;
 use crate::picture::{write_markdown, write_narrow_picture, write_picture};
 use crate::script_form::write_script;
@@ -32,6 +33,8 @@ pub enum Form {
     Markdown(Vec<Alignment>),
     /// The texts of its cells as CSV, those of hidden cells, too.
     Csv(Separator),
+    /// HTML, with its merged cells: a table, or a page of its own.
+    Html(HtmlPage),
 }
 
 impl Form {
@@ -60,6 +63,9 @@ impl Form {
             )),
             Form::Csv(separator) => {
                 Outcome::of_writing(write_csv(alloc, &records, *separator, writer))
+            }
+            Form::Html(page) => {
+                Outcome::of_writing(write_html(alloc, &records, spans, page, writer))
             }
         }
     }

@@ -5,11 +5,12 @@ ghost use Rattle.std.specs.Option.{option_map};
 ghost use Rattle.std.specs.Prelude.{◌≡◌, ◌&&◌, [], IfOk, MatchResult, map, not};
 ghost use Rattle.std.specs.String.{string_bytes};
 ghost use Rattle.tabled_script.specs.Arguments.{is_set};
-ghost use Rattle.tabled_script.specs.Requests.{IsAsked, IsForm, IsUnmade, contradiction, deciding, format_of, goes_with, named_source, script_of, settings_of_forms, written_of};
+ghost use Rattle.tabled_script.specs.Requests.{IsAsked, IsForm, IsUnmade, contradiction, deciding, format_of, goes_with, named_source, says_html, script_of, settings_of_forms, written_of};
 ghost use Rattle.tabled_script.specs.declared.setting.Written.TheVariants as written;
 
 use crate::arguments::{Arguments, Next};
 use crate::form::Form;
+use crate::html_form::HtmlPage;
 use crate::refusal::Refusal;
 use crate::request::{Format, Request, Source};
 use crate::setting::{Drawn, Kind, Setting, Written};
@@ -31,8 +32,10 @@ pub struct Invocation {
 }
 
 /// The settings that say what a table is written as, in the order in which they are named.
-const SETTINGS_OF_FORMS: [Setting; 6] = [
+const SETTINGS_OF_FORMS: [Setting; 8] = [
     Setting::Form,
+    Setting::Header,
+    Setting::Caption,
     Setting::Style,
     Setting::Picture,
     Setting::Alignments,
@@ -62,6 +65,8 @@ impl Arguments {
             sources,
             separator,
             to_separator,
+            header,
+            caption,
             script,
             output,
             steps,
@@ -73,6 +78,12 @@ impl Arguments {
         let form = match written {
             Written::Script => Form::Script,
             Written::Csv => Form::Csv(to_separator.unwrap_or(separator)),
+            Written::Html | Written::HtmlPage => Form::Html(HtmlPage {
+                header: header.unwrap_or(0),
+                caption,
+                alignments: alignments.unwrap_or(Vec::new(alloc)),
+                is_whole: written == Written::HtmlPage,
+            }),
             Written::Picture => picture(
                 drawn.unwrap_or(Drawn::Style(Style::ascii())),
                 width.or(if output.is_some() { None } else { columns }),
@@ -99,6 +110,7 @@ impl Arguments {
             None => Written::Script,
             Some(Setting::Form) => self.written.unwrap_or(Written::Script),
             Some(Setting::ToSeparator) => Written::Csv,
+            Some(Setting::Header | Setting::Caption) => Written::Html,
             Some(_) => Written::Picture,
         }
     }
@@ -140,9 +152,23 @@ fn goes_with(written: Written, setting: Setting) -> bool
     match (written, setting) {
         (_, Setting::Form) => true,
         (Written::Script, _) => false,
-        (Written::Picture, _) => setting != Setting::ToSeparator,
+        (Written::Picture, _) => !matches!(
+            setting,
+            Setting::ToSeparator | Setting::Header | Setting::Caption
+        ),
         (Written::Csv, _) => setting == Setting::ToSeparator,
+        (Written::Html | Written::HtmlPage, _) => says_html(setting),
     }
+}
+
+/// Says whether a setting says how HTML is written.
+fn says_html(setting: Setting) -> bool
+    ensures { result ≡ says_html setting }
+{
+    matches!(
+        setting,
+        Setting::Header | Setting::Caption | Setting::Alignments
+    )
 }
 
 /// A picture in what it is drawn in.

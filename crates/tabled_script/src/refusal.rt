@@ -231,6 +231,11 @@ fn value_text(alloc: Global, setting: Setting, value: &str) -> Result<String, Al
         Setting::Width | Setting::Columns => {
             format!(in alloc; "{value} is no number of columns")
         }
+        Setting::Header => format!(in alloc; "{value} is no number of rows"),
+        Setting::Caption => {
+            let option = setting.name();
+            format!(in alloc; "{option} takes any value")
+        }
         Setting::Separator | Setting::ToSeparator => {
             format!(in alloc;
                 "{value} is no separator: one character of ASCII, but no quote, or tab"

@@ -32,6 +32,10 @@ pub enum Setting {
     Separator,
     /// What parts the fields of CSV that is written.
     ToSeparator,
+    /// How many rows are the header of a table of HTML.
+    Header,
+    /// The caption of a table of HTML.
+    Caption,
     /// The file of the script.
     Script,
     /// The file that the table is written to.
@@ -54,6 +58,8 @@ pub(crate) enum Written {
     Script,
     Picture,
     Csv,
+    Html,
+    HtmlPage,
 }
 
 /// What a picture is drawn in.
@@ -64,7 +70,7 @@ pub(crate) enum Drawn {
 }
 
 /// The names of the options, those of what is told in place of a table, too.
-pub(crate) const OPTIONS: [&'static str; 16] = [
+pub(crate) const OPTIONS: [&'static str; 18] = [
     "--to",
     "--draw",
     "--style",
@@ -74,6 +80,8 @@ pub(crate) const OPTIONS: [&'static str; 16] = [
     "--csv",
     "--separator",
     "--to-separator",
+    "--header",
+    "--caption",
     "--script",
     "--output",
     "-o",
@@ -84,7 +92,7 @@ pub(crate) const OPTIONS: [&'static str; 16] = [
 ];
 
 /// The names of what a table is written as.
-pub(crate) const FORMS: [&'static str; 2] = ["script", "csv"];
+pub(crate) const FORMS: [&'static str; 4] = ["script", "csv", "html", "html-page"];
 
 impl Setting {
     /// The setting of an option.
@@ -101,6 +109,8 @@ impl Setting {
             "--csv" => Some(Setting::Rows(Kind::Csv)),
             "--separator" => Some(Setting::Separator),
             "--to-separator" => Some(Setting::ToSeparator),
+            "--header" => Some(Setting::Header),
+            "--caption" => Some(Setting::Caption),
             "--script" => Some(Setting::Script),
             "--output" | "-o" => Some(Setting::Output),
             "--check" => Some(Setting::Checks),
@@ -122,6 +132,8 @@ impl Setting {
             Setting::Rows(kind) => kind.option(),
             Setting::Separator => "--separator",
             Setting::ToSeparator => "--to-separator",
+            Setting::Header => "--header",
+            Setting::Caption => "--caption",
             Setting::Script => "--script",
             Setting::Output => "--output",
             Setting::Checks => "--check",
@@ -154,6 +166,8 @@ pub(crate) fn written_named(name: &str) -> Option<Written>
     match name {
         "script" => Some(Written::Script),
         "csv" => Some(Written::Csv),
+        "html" => Some(Written::Html),
+        "html-page" => Some(Written::HtmlPage),
         _ => None,
     }
 }

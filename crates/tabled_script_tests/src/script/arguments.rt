@@ -188,6 +188,23 @@ fn arguments_ask_for_steps_and_forms(rt: HostRuntime) -> Result<(), Fail> {
             "a,b\n",
             "",
         ),
+        // HTML has merged cells, and what is asked for of it.
+        (
+            "--to|html|set|cell|1|0|<br>",
+            "",
+            "row\ta&b\tx\nrow\t1\t2\nspan\t1\t0\t1\t2\n",
+            0,
+            "<table>\n<tbody>\n<tr><td>a&amp;b</td><td>x</td></tr>\n<tr><td colspan=\"2\">&lt;br&gt;</td></tr>\n</tbody>\n</table>\n",
+            "",
+        ),
+        (
+            "--caption|C|--align|lr|--header|1|--csv|f",
+            "a,b\nc,d\n",
+            "",
+            0,
+            "<table>\n<caption>C</caption>\n<thead>\n<tr><th scope=\"col\" style=\"text-align: left\">a</th><th scope=\"col\" style=\"text-align: right\">b</th></tr>\n</thead>\n<tbody>\n<tr><td style=\"text-align: left\">c</td><td style=\"text-align: right\">d</td></tr>\n</tbody>\n</table>\n",
+            "",
+        ),
         // Faults are told with the words of their lines, and nothing is written.
         (
             "vmreg",
