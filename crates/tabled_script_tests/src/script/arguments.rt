@@ -313,13 +313,7 @@ fn arguments_ask_for_steps_and_forms(rt: HostRuntime) -> Result<(), Fail> {
         };
         let mut written = Vec::new(alloc);
         let mut errors = Vec::new(alloc);
-        let got = answer(
-            alloc,
-            &asked,
-            script.as_bytes(),
-            &mut written,
-            &mut errors,
-        );
+        let got = answer(alloc, &asked, script.as_bytes(), &mut written, &mut errors);
         assert_eq!(rt; got, status, "{arguments}");
         assert_eq!(rt; written.as_slice(), output.as_bytes(), "{arguments}");
         assert_eq!(rt; errors.as_slice(), told.as_bytes(), "{arguments}");
@@ -332,9 +326,15 @@ fn what_cannot_be_asked_is_refused(rt: HostRuntime) -> Result<(), Fail> {
     let alloc = rt.alloc();
     for &(arguments, told) in &[
         ("--spin", "there is no option --spin: --help lists them"),
-        ("--check|--cvs|f", "there is no option --cvs; maybe --csv is meant"),
+        (
+            "--check|--cvs|f",
+            "there is no option --cvs; maybe --csv is meant",
+        ),
         ("-", "there is no option -; maybe -o is meant"),
-        ("--draw|--help", "there is no option --help here: it stands first"),
+        (
+            "--draw|--help",
+            "there is no option --help here: it stands first",
+        ),
         ("--check|--csv", "--csv lacks its value"),
         ("--draw=yes", "--draw takes no value"),
         (
@@ -353,9 +353,21 @@ fn what_cannot_be_asked_is_refused(rt: HostRuntime) -> Result<(), Fail> {
             "--to-separator|::",
             ":: is no separator: one character of ASCII, but no quote, or tab",
         ),
-        ("--to|tsv", "there is no form tsv: script csv"),
+        (
+            "--to|tsv",
+            "there is no form tsv: script csv html html-page",
+        ),
         ("--width|+9", "+9 is no number of columns"),
         ("--columns=", " is no number of columns"),
+        ("--header|one", "one is no number of rows"),
+        (
+            "--to|csv|--caption|x",
+            "--to and --caption contradict each other",
+        ),
+        (
+            "--style|dots|--header|1",
+            "--header and --style contradict each other",
+        ),
         ("--csv|", "no name of a file stands behind --csv"),
         ("--script=", "no name of a file stands behind --script"),
         ("-o=", "no name of a file stands behind --output"),
