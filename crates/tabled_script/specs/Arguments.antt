@@ -128,6 +128,7 @@ abbrev pub with_option_and_value : Option Setting → List ℕ → List ℕ → 
 with_option_and_value None option value asked = Err (misuse.NoOption, option)
 with_option_and_value (Some setting) option value asked = if takes_value setting then with_value setting value asked else Err (misuse.NeedlessValue setting, value)
 
+-- a byte is the equals sign
 abbrev pub is_equals : ℕ → Bool
 is_equals byte = byte == 61
 
@@ -136,8 +137,8 @@ abbrev pub with_dashed : List ℕ → Asked → Result Asked Blamed
 with_dashed argument asked =
     if bytes_eq argument (codes "--") then Ok (expect next.Word asked)
     else (if nat_lt (position_or_len is_equals argument) (length argument)
-        then with_option_and_value (named_in options (before_first is_equals argument)) (before_first is_equals argument) (after_first is_equals argument) asked
-        else with_option (named_in options argument) argument asked)
+    then with_option_and_value (named_in options (before_first is_equals argument)) (before_first is_equals argument) (after_first is_equals argument) asked
+    else with_option (named_in options argument) argument asked)
 
 -- the words of a step, if it has any
 abbrev pub step_of : List (List ℕ) → List (List (List ℕ))

@@ -93,11 +93,11 @@ value_text file name = codes "no name of a file stands behind " ++ name_of file
 abbrev pub known_options : List (List ℕ)
 known_options = map (λ option. option.0) options ++ (codes "--help" ∷ codes "--explain" ∷ codes "--version" ∷ [])
 
--- the first of them that a word becomes by one change, or, where it has five bytes or more, by two
-unfoldable pub meant_by : List ℕ → Option (List ℕ)
-meant_by word =
-    if nat_le 5 (length word) then option_or (find (is_within 1 word) known_options) (find (is_within 2 word) known_options)
-    else find (is_within 1 word) known_options
+-- the first of some options that a word becomes by one change, or, where it has five bytes or more, by two
+unfoldable pub meant_in : List ℕ → List (List ℕ) → Option (List ℕ)
+meant_in word options =
+    if nat_le 5 (length word) then option_or (find (is_within 1 word) options) (find (is_within 2 word) options)
+    else find (is_within 1 word) options
 
 -- the option that may be meant by one that isn't known here, or where they are listed
 abbrev pub cure_of : List ℕ → Option (List ℕ) → List ℕ
@@ -106,7 +106,11 @@ cure_of option (Some meant) = if bytes_eq meant option then codes " here: it sta
 
 -- that there is no such option
 abbrev pub option_text : List ℕ → List ℕ
-option_text option = codes "there is no option " ++ (option ++ cure_of option (meant_by option))
+option_text option = codes "there is no option " ++ (option ++ cure_of option (meant_in option known_options))
+
+-- the options that read a file, as its name ends
+unfoldable pub reading_options : List ℕ → List ℕ
+reading_options name = unwrap_or (read_by name) (codes "--csv")
 
 -- what is wrong with an argument, or this part of it
 abbrev pub misuse_text : Misuse → List ℕ → List ℕ
@@ -115,7 +119,7 @@ misuse_text (misuse.WrongValue setting) value = value_text setting value
 misuse_text (misuse.NeedlessValue setting) value = name_of setting ++ codes " takes no value"
 misuse_text (misuse.Repeated setting) value = name_of setting ++ codes " stands here twice"
 misuse_text misuse.InputRepeated name = codes "standard input is read once: - stands here twice"
-misuse_text misuse.FileAsStep name = name ++ (codes " is a file: " ++ (unwrap_or (read_by name) (codes "--csv") ++ (32 ∷ name)))
+misuse_text misuse.FileAsStep name = name ++ (codes " is a file: " ++ (reading_options name ++ (32 ∷ name)))
 
 -- what is told of a refusal
 abbrev pub refusal_text : Refusal → List ℕ

@@ -1,17 +1,15 @@
 -- What arguments ask for, as a whole.
-use Rattle.std.specs.Prelude.{◌≡◌, ℕ, ◌&&◌, Bool, true, false, List, [], ◌∷◌, codes, if◌then◌else◌, length, ◌==◌, map, not, Option, None, Some}
+use Rattle.std.specs.Prelude.{◌≡◌, ℕ, ◌&&◌, ◌||◌, Bool, true, false, List, [], ◌∷◌, codes, if◌then◌else◌, map, not, Option, None, Some}
 use Rattle.std.specs.List.{find}
-use Rattle.std.specs.Option.{is_some, option_and_then, option_map, option_or, unwrap_or}
+use Rattle.std.specs.Option.{is_some, option_and_then, option_map, unwrap_or}
 use Rattle.std.specs.String.{string_bytes}
 use Rattle.tabled_draw.specs.Styles.{ascii}
 use Rattle.tabled_draw.specs.declared.alignment.Alignment.{Alignment}
-use Rattle.tabled_script.specs.Arguments.{Asked, is_set, step_ended}
+use Rattle.tabled_script.specs.Arguments.{Asked, is_set}
 use Rattle.tabled_script.specs.declared.arguments.Next.{Next}
 use Rattle.tabled_script.specs.declared.arguments.Next.TheVariants as next
 use Rattle.tabled_script.specs.declared.form.Form.{Form}
 use Rattle.tabled_script.specs.declared.form.Form.TheVariants as form
-use Rattle.tabled_script.specs.declared.html_form.HtmlPage.{HtmlPage}
-use Rattle.tabled_script.specs.declared.invocation.Invocation.{Invocation}
 use Rattle.tabled_script.specs.declared.refusal.Refusal.{Refusal}
 use Rattle.tabled_script.specs.declared.refusal.Refusal.TheVariants.{Contradictory, Failed, Misused, NoValue, NotText, OutOfMemory, Terminal}
 use Rattle.tabled_script.specs.declared.request.Format.{Format}
@@ -94,8 +92,8 @@ goes_with written.HtmlPage setting = says_html setting
 abbrev pub contradiction : Asked → Option (Setting × Setting)
 contradiction asked =
     option_and_then
-      (λ first. option_map (λ other. (first, other)) (find (λ s. is_set s asked && not (goes_with (written_of asked) s)) settings_of_forms))
-      (deciding asked)
+    (λ first. option_map (λ other. (first, other)) (find (λ s. is_set s asked && not (goes_with (written_of asked) s)) settings_of_forms))
+    (deciding asked)
 
 -- the setting whose value is lacking
 abbrev pub awaited : Next → Option Setting
@@ -118,21 +116,11 @@ drawn_of asked = unwrap_or asked.drawn (drawn.Style ascii)
 
 -- how many columns a picture has at most: those that are asked for, or those of the terminal that it is written to
 abbrev pub width_of : Asked → Option ℕ
-width_of asked = option_or asked.width (if is_some asked.output then None else asked.columns)
+width_of asked = if is_some asked.width || is_some asked.output then asked.width else asked.columns
 
 -- what parts the fields of the files that are read
 abbrev pub separator_of : Asked → ℕ
 separator_of asked = unwrap_or asked.separator 44
-
--- the form of what a table is written as, drawn in, how wide, how aligned, and parted by what
-abbrev pub IsForm : Written → Drawn → Option ℕ → List Alignment → ℕ → Form → Type 0
-IsForm how look width alignments separator form.Script = how ≡ written.Script
-IsForm how look width alignments separator (form.Picture style aligned) = (how ≡ written.Picture) × (look ≡ drawn.Style style) × (width ≡ None) × (alignments ≡ aligned.items)
-IsForm how look width alignments separator (form.NarrowPicture columns style aligned) =
-    (how ≡ written.Picture) × (look ≡ drawn.Style style) × (width ≡ Some columns) × (alignments ≡ aligned.items)
-IsForm how look width alignments separator (form.Markdown aligned) = (how ≡ written.Picture) × (look ≡ drawn.Markdown) × (alignments ≡ aligned.items)
-IsForm how look width alignments separator (form.Csv byte) = (how ≡ written.Csv) × (separator ≡ byte)
-IsForm how look width alignments separator (form.Html page) = ⊥
 
 -- it is HTML, and whether that is a page of its own
 abbrev pub IsHtml : Written → Bool → Type 0
@@ -140,18 +128,38 @@ IsHtml written.Html is_whole = is_whole ≡ false
 IsHtml written.HtmlPage is_whole = is_whole ≡ true
 IsHtml _ is_whole = ⊥
 
--- HTML has the header, the caption and the alignments that are asked for
-pub record AsksHtml (asked : Asked) (page : HtmlPage) : Type 0 where
-  pub how : IsHtml (written_of asked) page.is_whole
-  pub header : page.header ≡ unwrap_or asked.header 0
-  pub caption : option_map string_bytes page.caption ≡ asked.caption
-  pub alignments : page.alignments.items ≡ unwrap_or asked.alignments []
+-- what a table is written as and drawn in, how wide, how aligned, parted by what, and with how many rows of header under which caption
+pub record Shape : Type 0 where
+  pub how : Written
+  pub look : Drawn
+  pub width : Option ℕ
+  pub alignments : List Alignment
+  pub separator : ℕ
+  pub header : ℕ
+  pub caption : Option (List ℕ)
 
--- the table is written in the form that is asked for
-abbrev pub AsksForm : Asked → Form → Type 0
-AsksForm asked (form.Html page) = AsksHtml asked page
-AsksForm asked form =
-    IsForm (written_of asked) (drawn_of asked) (width_of asked) (unwrap_or asked.alignments []) (unwrap_or asked.to_separator (separator_of asked)) form
+-- the form has what is said of it
+abbrev pub IsForm : Shape → Form → Type 0
+IsForm shape form.Script = shape.how ≡ written.Script
+IsForm shape (form.Picture style alignments) = (shape.how ≡ written.Picture) × (shape.look ≡ drawn.Style style) × (shape.width ≡ None) × (shape.alignments ≡ alignments.items)
+IsForm shape (form.NarrowPicture width style alignments) =
+    (shape.how ≡ written.Picture) × (shape.look ≡ drawn.Style style) × (shape.width ≡ Some width) × (shape.alignments ≡ alignments.items)
+IsForm shape (form.Markdown alignments) = (shape.how ≡ written.Picture) × (shape.look ≡ drawn.Markdown) × (shape.alignments ≡ alignments.items)
+IsForm shape (form.Csv byte) = (shape.how ≡ written.Csv) × (shape.separator ≡ byte)
+IsForm shape (form.Html page) =
+    IsHtml shape.how page.is_whole × (shape.header ≡ page.header) × (shape.caption ≡ option_map string_bytes page.caption) × (shape.alignments ≡ page.alignments.items)
+
+-- the shape that is asked for
+abbrev pub shape_of : Asked → Shape
+shape_of asked = record {
+  how = written_of asked;
+  look = drawn_of asked;
+  width = width_of asked;
+  alignments = unwrap_or asked.alignments [];
+  separator = unwrap_or asked.to_separator (separator_of asked);
+  header = unwrap_or asked.header 0;
+  caption = asked.caption;
+}
 
 -- how the rows of a file are read
 abbrev pub format_of : ℕ → Kind → Format
@@ -166,13 +174,6 @@ abbrev pub script_of : Option (List ℕ) → Bool → Option (List ℕ)
 script_of None true = Some (codes "-")
 script_of script is_alone = script
 
--- an invocation is what is asked for, and nothing of the bytes of its files
-pub record IsAsked (asked : Asked) (invocation : Invocation) : Type 0 where
-  pub whole : awaited asked.next ≡ None
-  pub agrees : contradiction asked ≡ None
-  pub form : AsksForm asked invocation.request.form
-  pub sources : map named_source invocation.request.sources.items ≡ map (λ file. (format_of (separator_of asked) file.0, (file.1, []))) asked.sources
-  pub steps : map (λ words. map string_bytes words.items) invocation.request.steps.items ≡ (step_ended asked).steps
-  pub checks_steps : invocation.request.checks_steps ≡ asked.checks_steps
-  pub script : option_map string_bytes invocation.script ≡ script_of asked.script (length asked.sources == 0)
-  pub output : option_map string_bytes invocation.output ≡ asked.output
+-- the files of rows that are asked for, and nothing of their bytes
+abbrev pub files_of : Asked → List (Format × (List ℕ × List ℕ))
+files_of asked = map (λ file. (format_of (separator_of asked) file.0, (file.1, []))) asked.sources

@@ -1,12 +1,11 @@
 //! What the arguments ask for, as a whole.
 
 ghost use Rattle.std.specs.List.{find};
-ghost use Rattle.std.specs.Option.{option_map};
-ghost use Rattle.std.specs.Prelude.{◌≡◌, ◌&&◌, [], IfOk, MatchResult, map, not};
+ghost use Rattle.std.specs.Option.{option_map, unwrap_or};
+ghost use Rattle.std.specs.Prelude.{◌≡◌, ◌&&◌, ◌==◌, [], IfErr, IfOk, None, length, map, not};
 ghost use Rattle.std.specs.String.{string_bytes};
-ghost use Rattle.tabled_script.specs.Arguments.{is_set};
-ghost use Rattle.tabled_script.specs.Requests.{IsAsked, IsForm, IsUnmade, contradiction, deciding, format_of, goes_with, named_source, says_html, script_of, settings_of_forms, written_of};
-ghost use Rattle.tabled_script.specs.declared.setting.Written.TheVariants as written;
+ghost use Rattle.tabled_script.specs.Arguments.{is_set, step_ended};
+ghost use Rattle.tabled_script.specs.Requests.{IsForm, IsUnmade, awaited, contradiction, deciding, drawn_of, files_of, format_of, goes_with, named_source, says_html, script_of, separator_of, settings_of_forms, shape_of, width_of, written_of};
 
 use crate::arguments::{Arguments, Next};
 use crate::form::Form;
@@ -46,8 +45,17 @@ const SETTINGS_OF_FORMS: [Setting; 8] = [
 impl Arguments {
     /// What was asked for. The bytes of files are not read yet. It is refused where the last option lacks its value, or two
     /// contradict each other.
+    #[tactic(auto, using(crate::proofs::Taken::form_as))]
     pub fn into_invocation(mut self, alloc: Global) -> Result<Invocation, Refusal>
-        ensures { MatchResult result (IsAsked self) (IsUnmade self) }
+        ensures whole { IfOk result (λ _. awaited self.next ≡ None) }
+        ensures agrees { IfOk result (λ _. contradiction self ≡ None) }
+        ensures form { IfOk result (λ invocation. IsForm (shape_of self) invocation.request.form) }
+        ensures sources { IfOk result (λ invocation. map named_source invocation.request.sources.items ≡ files_of self) }
+        ensures steps { IfOk result (λ invocation. map (λ words. map string_bytes words.items) invocation.request.steps.items ≡ (step_ended self).steps) }
+        ensures checks_steps { IfOk result (λ invocation. invocation.request.checks_steps ≡ self.checks_steps) }
+        ensures script { IfOk result (λ invocation. option_map string_bytes invocation.script ≡ script_of self.script (length self.sources == 0)) }
+        ensures output { IfOk result (λ invocation. option_map string_bytes invocation.output ≡ self.output) }
+        ensures refused { IfErr result (IsUnmade self) }
     {
         if let Next::Value(setting) = self.next {
             return Err(Refusal::NoValue(setting));
@@ -57,49 +65,73 @@ impl Arguments {
         }
         self.end_step(alloc)?;
         let written = self.written();
+        let look = self.look();
+        let width = self.picture_width();
+        let separator = self.separator();
+        let to_separator = self.to_separator.unwrap_or(separator);
+        let header = self.header.unwrap_or(0);
         let Arguments {
-            drawn,
             alignments,
-            width,
-            columns,
-            sources,
-            separator,
-            to_separator,
-            header,
             caption,
+            sources,
             script,
             output,
             steps,
             checks_steps,
             ..
         } = self;
-        let separator = separator.unwrap_or(Separator::comma());
         let script = script_of(alloc, script, sources.is_empty())?;
-        let form = match written {
-            Written::Script => Form::Script,
-            Written::Csv => Form::Csv(to_separator.unwrap_or(separator)),
-            Written::Html | Written::HtmlPage => Form::Html(HtmlPage {
-                header: header.unwrap_or(0),
-                caption,
-                alignments: alignments.unwrap_or(Vec::new(alloc)),
-                is_whole: written == Written::HtmlPage,
-            }),
-            Written::Picture => picture(
-                drawn.unwrap_or(Drawn::Style(Style::ascii())),
-                width.or(if output.is_some() { None } else { columns }),
-                alignments.unwrap_or(Vec::new(alloc)),
-            ),
-        };
+        let alignments = listed(alloc, alignments);
+        let form = form_of(
+            written,
+            look,
+            width,
+            alignments,
+            to_separator,
+            header,
+            caption,
+        );
+        let sources = unread(alloc, sources, separator)?;
         Ok(Invocation {
             request: Request {
                 form,
-                sources: unread(alloc, sources, separator)?,
+                sources,
                 steps,
                 checks_steps,
             },
             script,
             output,
         })
+    }
+
+    /// What a picture is drawn in.
+    fn look(&self) -> Drawn
+        ensures { result ≡ drawn_of self.now }
+    {
+        match self.drawn {
+            Some(drawn) => drawn,
+            None => Drawn::Style(Style::ascii()),
+        }
+    }
+
+    /// How many columns a picture has at most: those of the terminal only where it is written there.
+    fn picture_width(&self) -> Option<usize>
+        ensures { result ≡ width_of self.now }
+    {
+        if self.width.is_some() || self.output.is_some() {
+            return self.width;
+        }
+        self.columns
+    }
+
+    /// What parts the fields of the files that are read.
+    fn separator(&self) -> Separator
+        ensures { result ≡ separator_of self.now }
+    {
+        match self.separator {
+            Some(separator) => separator,
+            None => Separator::comma(),
+        }
     }
 
     /// What the table is written as.
@@ -138,10 +170,8 @@ impl Arguments {
     fn misfit(&self, written: Written) -> Option<Setting>
         ensures { result ≡ find (λ s. is_set s self.now && not (goes_with written s)) settings_of_forms }
     {
-        SETTINGS_OF_FORMS
-            .iter()
-            .copied()
-            .find(|setting| self.is_set(*setting) && !goes_with(written, *setting))
+        SETTINGS_OF_FORMS.iter().copied().find(|setting| self.is_set(*setting)
+            && !goes_with(written, *setting))
     }
 }
 
@@ -171,14 +201,49 @@ fn says_html(setting: Setting) -> bool
     )
 }
 
-/// A picture in what it is drawn in.
-fn picture(drawn: Drawn, width: Option<usize>, alignments: Vec<Alignment>) -> Form
-    ensures { IsForm written.Picture drawn width alignments.items 0 result }
+/// The form of what a table is written as and drawn in, how wide, how aligned, parted by what, and with how many rows of
+/// header under which caption.
+fn form_of(
+    written: Written,
+    look: Drawn,
+    width: Option<usize>,
+    alignments: Vec<Alignment>,
+    separator: Separator,
+    header: usize,
+    caption: Option<String>,
+) -> Form
+    ensures { IsForm (record { how = written; look = look; width = width; alignments = alignments.items; separator = separator; header = header; caption = option_map string_bytes caption }) result }
 {
-    match (drawn, width) {
-        (Drawn::Style(style), Some(width)) => Form::NarrowPicture(width, style, alignments),
-        (Drawn::Style(style), None) => Form::Picture(style, alignments),
-        (Drawn::Markdown, _) => Form::Markdown(alignments),
+    match written {
+        Written::Script => Form::Script,
+        Written::Csv => Form::Csv(separator),
+        Written::Html => Form::Html(HtmlPage {
+            header,
+            caption,
+            alignments,
+            is_whole: false,
+        }),
+        Written::HtmlPage => Form::Html(HtmlPage {
+            header,
+            caption,
+            alignments,
+            is_whole: true,
+        }),
+        Written::Picture => match (look, width) {
+            (Drawn::Markdown, _) => Form::Markdown(alignments),
+            (Drawn::Style(style), None) => Form::Picture(style, alignments),
+            (Drawn::Style(style), Some(width)) => Form::NarrowPicture(width, style, alignments),
+        },
+    }
+}
+
+/// A list, which is empty where there is none.
+fn listed(alloc: Global, alignments: Option<Vec<Alignment>>) -> Vec<Alignment>
+    ensures { result.items ≡ unwrap_or (option_map (λ list. list.items) alignments) [] }
+{
+    match alignments {
+        Some(alignments) => alignments,
+        None => Vec::new(alloc),
     }
 }
 

@@ -1,11 +1,10 @@
 //! Why a request isn't made of arguments, or isn't answered.
 
 ghost use Rattle.std.specs.List.{flat_map};
-ghost use Rattle.std.specs.Option.{option_map, unwrap_or};
-ghost use Rattle.std.specs.Prelude.{◌≡◌, ◌++◌, ◌∷◌, IfOk, OnOk, codes};
+ghost use Rattle.std.specs.Option.{option_map};
+ghost use Rattle.std.specs.Prelude.{◌≡◌, ◌++◌, ◌∷◌, IfOk, OnOk, map};
 ghost use Rattle.std.specs.String.{string_bytes};
-ghost use Rattle.tabled_script.specs.Refusals.{GetsFirst, failure_of, failure_text, meant_by, misuse_text, names_text, option_text, refusal_line, refusal_text, status_of, value_text};
-ghost use Rattle.tabled_script.specs.Settings.{read_by};
+ghost use Rattle.tabled_script.specs.Refusals.{GetsFirst, failure_of, failure_text, meant_in, misuse_text, names_text, option_text, reading_options, refusal_line, refusal_text, status_of, value_text};
 
 use crate::outcome::{FAILED, OUT_OF_MEMORY};
 use crate::setting::{FORMS, OPTIONS, Setting, read_by};
@@ -189,8 +188,9 @@ fn misuse_text(alloc: Global, misuse: Misuse, argument: &str) -> Result<String, 
 }
 
 /// The options that read a file, as its name ends.
+#[tactic(auto, unfolding(crate::specs::Refusals::reading_options))]
 fn reading_options(name: &str) -> &'static str
-    ensures { result.now ≡ unwrap_or (read_by name.now) (codes "--csv") }
+    ensures { result.now ≡ reading_options name.now }
 {
     match read_by(name) {
         Some(options) => options,
@@ -202,7 +202,7 @@ fn reading_options(name: &str) -> &'static str
 fn option_text(alloc: Global, option: &str) -> Result<String, AllocError>
     ensures { IfOk result (λ text. string_bytes text ≡ option_text option.now) }
 {
-    match meant_by(option) {
+    match meant_in(option, &OPTIONS) {
         Some(meant) if meant == option => {
             format!(in alloc; "there is no option {option} here: it stands first")
         }
@@ -212,10 +212,10 @@ fn option_text(alloc: Global, option: &str) -> Result<String, AllocError>
 }
 
 /// The option that may be meant by a word.
-fn meant_by(word: &str) -> Option<&'static str>
-    ensures { option_map (λ option. option.now) result ≡ meant_by word.now }
+fn meant_in<'o>(word: &str, options: &[&'o str]) -> Option<&'o str>
+    ensures { option_map (λ option. option.now) result ≡ meant_in word.now (map (λ option. option.now) options.now) }
 {
-    nearest(word, &OPTIONS)
+    nearest(word, options)
 }
 
 /// What is wrong with a value.
@@ -253,12 +253,7 @@ fn value_text(alloc: Global, setting: Setting, value: &str) -> Result<String, Al
 }
 
 /// That there is nothing of some kind with a name, and which there are.
-fn names_text(
-    alloc: Global,
-    kind: &str,
-    name: &str,
-    names: &[&str],
-) -> Result<String, AllocError>
+fn names_text(alloc: Global, kind: &str, name: &str, names: &[&str]) -> Result<String, AllocError>
     ensures { IfOk result (λ text. string_bytes text ≡ names_text kind.now name.now (flat_map (λ known. 32 ∷ known.now) names.now)) }
 {
     let mut text = format!(in alloc; "there is no {kind} {name}:")?;

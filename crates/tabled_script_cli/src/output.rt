@@ -53,7 +53,10 @@ impl<'a> Output<'a> {
             }
             (Some(kind), Place::Unmade(name) | Place::Made(name, _)) => {
                 match String::from_str(self.rt.alloc(), name) {
-                    Ok(name) => Refusal::Failed(name, Failure::of(kind)).tell(self.rt.alloc(), errors),
+                    Ok(name) => Refusal::Failed(name, Failure::of(kind)).tell(
+                        self.rt.alloc(),
+                        errors,
+                    ),
                     Err(_) => status,
                 }
             }

@@ -153,7 +153,8 @@ fn a_file_in_another_encoding_has_a_cure(rt: HostRuntime) -> Result<(), Fail> {
     let mut errors = Vec::new(alloc);
     assert_eq!(rt; answer(alloc, &request, b"", &mut written, &mut errors), 2);
     assert!(rt; written.is_empty());
-    let told = "tabled_script: f: line 2: a field is not UTF-8: 'iconv -f LATIN1 -t UTF-8' makes it of Latin-1\n";
+    let told =
+        "tabled_script: f: line 2: a field is not UTF-8: 'iconv -f LATIN1 -t UTF-8' makes it of Latin-1\n";
     assert_eq!(rt; errors.as_slice(), told.as_bytes());
     Ok(())
 }

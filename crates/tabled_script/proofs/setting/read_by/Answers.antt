@@ -12,5 +12,5 @@ read_by_none name csv tsv = ap₂ (λ (a b : Bool). if a then Some (codes "--csv
 pub returns : goal.returns
 returns c =
     sym (read_by_none c.args.name.now
-      (sym (ends_text c.ends_with.result (codes ".csv") c.args.name.now c.ends_with.ensures.cases) ∙ c.if-ends_with.false)
-      (sym (ends_text c.ends_with-2.result (codes ".tsv") c.args.name.now c.ends_with-2.ensures.cases) ∙ c.if-ends_with-2.false))
+    (sym (ends_text c.ends_with.result (codes ".csv") c.args.name.now c.ends_with.ensures.cases) ∙ c.if-ends_with.false)
+    (sym (ends_text c.ends_with-2.result (codes ".tsv") c.args.name.now c.ends_with-2.ensures.cases) ∙ c.if-ends_with-2.false))

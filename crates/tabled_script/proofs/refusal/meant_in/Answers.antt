@@ -2,11 +2,11 @@
 use Rattle.std.specs.List.{find}
 use Rattle.std.specs.Option.{option_map, option_or}
 use Rattle.std.specs.Prelude.{Bool, cond, false, if◌then◌else◌, nat_le, true}
-use Rattle.tabled_help.specs.Near.{is_within, nearest}
+use Rattle.tabled_help.specs.Near.{is_within}
 use Rattle.tabled_script.proofs.Common.{[], ◌∙◌, ◌∷◌, ◌≡◌, List, None, Option, Some, ap, ap₂, length, map, refl, ℕ}
 use Rattle.std.proofs.Common.{Bor}
-use Rattle.tabled_script.proofs.refusal.meant_by.Goals as goal
-use Rattle.tabled_script.specs.Refusals.{known_options, meant_by}
+use Rattle.tabled_script.proofs.refusal.meant_in.Goals as goal
+use Rattle.tabled_script.specs.Refusals.{meant_in}
 
 abbrev bytes : Bor (List ℕ) → List ℕ
 bytes word = word.now
@@ -24,11 +24,11 @@ chosen true None two = refl
 chosen true (Some word) two = refl
 chosen false one two = refl
 
-meant : (word : List ℕ) (words : List (Bor (List ℕ))) → map bytes words ≡ known_options → option_map bytes (nearest word words) ≡ meant_by word
-unfolding meant_by
-meant word words is =
-    chosen (nat_le 5 (length word)) (find (λ w. is_within 1 word w.now) words) (find (λ w. is_within 2 word w.now) words)
-    ∙ ap₂ (λ (one two : Option (List ℕ)). if nat_le 5 (length word) then option_or one two else one) (found (is_within 1 word) words ∙ ap (find (is_within 1 word)) is) (found (is_within 2 word) words ∙ ap (find (is_within 2 word)) is)
-
 pub returns : goal.returns
-returns c = ap (option_map bytes) c.nearest.ensures ∙ meant c.args.word.now _ refl
+unfolding meant_in
+returns c =
+    let word = c.args.word.now in
+    let words = c.args.options.now in
+    ap (option_map bytes) c.nearest.ensures
+    ∙ (chosen (nat_le 5 (length word)) (find (λ w. is_within 1 word w.now) words) (find (λ w. is_within 2 word w.now) words)
+    ∙ ap₂ (λ (one two : Option (List ℕ)). if nat_le 5 (length word) then option_or one two else one) (found (is_within 1 word) words) (found (is_within 2 word) words))
