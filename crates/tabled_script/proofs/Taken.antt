@@ -4,7 +4,7 @@ use Rattle.std.specs.String.{string_bytes}
 use Rattle.tabled_script.proofs.Common.{[], ◌∙◌, ◌∷◌, ◌≡◌, Global, List, ap, inl, inr, length, map, refl, subst, sym, ℕ}
 use Rattle.tabled_script.specs.Arguments.{Asked, Blamed, expect, has_taken, set_to, step_of, with_first_value}
 use Rattle.tabled_script.specs.Refusals.{IsRefused, Refuses, Takes}
-use Rattle.tabled_script.specs.Requests.{IsForm, Shape}
+use Rattle.tabled_script.specs.Requests.{IsForm, Writing}
 use Rattle.tabled_script.specs.declared.form.Form.{Form}
 use Rattle.tabled_script.specs.declared.arguments.Next.TheVariants as next
 use Rattle.tabled_script.specs.declared.refusal.Misuse.TheVariants as misuse
@@ -21,8 +21,8 @@ refused_for expected blamed refused (inl memory) is = inl memory
 refused_for expected blamed refused (inr refuses) is = inr (blamed, is, refuses)
 
 -- the form that is asked for, made of what it is to be
-pub form_as : (shape asked : Shape) (form : Form) → IsForm shape form → shape ≡ asked → IsForm asked form
-form_as shape asked form is same = subst (λ (it : Shape). IsForm it form) same is
+pub form_as : (writing asked : Writing) (form : Form) → IsForm writing form → writing ≡ asked → IsForm asked form
+form_as writing asked form is same = subst (λ (it : Writing). IsForm it form) same is
 
 -- the words of a step that has none
 pub no_step : (words : List (String Global)) → length words ≡ 0 → step_of (map string_bytes words) ≡ []

@@ -128,8 +128,8 @@ IsHtml written.Html is_whole = is_whole ≡ false
 IsHtml written.HtmlPage is_whole = is_whole ≡ true
 IsHtml _ is_whole = ⊥
 
--- what a table is written as and drawn in, how wide, how aligned, parted by what, and with how many rows of header under which caption
-pub record Shape : Type 0 where
+-- how a table is to be written: as what, and drawn in what, how wide, how aligned, parted by what, and with how many rows of header under which caption
+pub record Writing : Type 0 where
   pub how : Written
   pub look : Drawn
   pub width : Option ℕ
@@ -139,19 +139,19 @@ pub record Shape : Type 0 where
   pub caption : Option (List ℕ)
 
 -- the form has what is said of it
-abbrev pub IsForm : Shape → Form → Type 0
-IsForm shape form.Script = shape.how ≡ written.Script
-IsForm shape (form.Picture style alignments) = (shape.how ≡ written.Picture) × (shape.look ≡ drawn.Style style) × (shape.width ≡ None) × (shape.alignments ≡ alignments.items)
-IsForm shape (form.NarrowPicture width style alignments) =
-    (shape.how ≡ written.Picture) × (shape.look ≡ drawn.Style style) × (shape.width ≡ Some width) × (shape.alignments ≡ alignments.items)
-IsForm shape (form.Markdown alignments) = (shape.how ≡ written.Picture) × (shape.look ≡ drawn.Markdown) × (shape.alignments ≡ alignments.items)
-IsForm shape (form.Csv byte) = (shape.how ≡ written.Csv) × (shape.separator ≡ byte)
-IsForm shape (form.Html page) =
-    IsHtml shape.how page.is_whole × (shape.header ≡ page.header) × (shape.caption ≡ option_map string_bytes page.caption) × (shape.alignments ≡ page.alignments.items)
+abbrev pub IsForm : Writing → Form → Type 0
+IsForm writing form.Script = writing.how ≡ written.Script
+IsForm writing (form.Picture style alignments) = (writing.how ≡ written.Picture) × (writing.look ≡ drawn.Style style) × (writing.width ≡ None) × (writing.alignments ≡ alignments.items)
+IsForm writing (form.NarrowPicture width style alignments) =
+    (writing.how ≡ written.Picture) × (writing.look ≡ drawn.Style style) × (writing.width ≡ Some width) × (writing.alignments ≡ alignments.items)
+IsForm writing (form.Markdown alignments) = (writing.how ≡ written.Picture) × (writing.look ≡ drawn.Markdown) × (writing.alignments ≡ alignments.items)
+IsForm writing (form.Csv byte) = (writing.how ≡ written.Csv) × (writing.separator ≡ byte)
+IsForm writing (form.Html page) =
+    IsHtml writing.how page.is_whole × (writing.header ≡ page.header) × (writing.caption ≡ option_map string_bytes page.caption) × (writing.alignments ≡ page.alignments.items)
 
--- the shape that is asked for
-abbrev pub shape_of : Asked → Shape
-shape_of asked = record {
+-- how the table that is asked for is to be written
+abbrev pub writing_of : Asked → Writing
+writing_of asked = record {
   how = written_of asked;
   look = drawn_of asked;
   width = width_of asked;

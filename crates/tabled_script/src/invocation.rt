@@ -5,7 +5,7 @@ ghost use Rattle.std.specs.Option.{option_map, unwrap_or};
 ghost use Rattle.std.specs.Prelude.{◌≡◌, ◌&&◌, ◌==◌, [], IfErr, IfOk, None, length, map, not};
 ghost use Rattle.std.specs.String.{string_bytes};
 ghost use Rattle.tabled_script.specs.Arguments.{is_set, step_ended};
-ghost use Rattle.tabled_script.specs.Requests.{IsForm, IsUnmade, awaited, contradiction, deciding, drawn_of, files_of, format_of, goes_with, named_source, says_html, script_of, separator_of, settings_of_forms, shape_of, width_of, written_of};
+ghost use Rattle.tabled_script.specs.Requests.{IsForm, IsUnmade, awaited, contradiction, deciding, drawn_of, files_of, format_of, goes_with, named_source, says_html, script_of, separator_of, settings_of_forms, writing_of, width_of, written_of};
 
 use crate::arguments::{Arguments, Next};
 use crate::form::Form;
@@ -49,7 +49,7 @@ impl Arguments {
     pub fn into_invocation(mut self, alloc: Global) -> Result<Invocation, Refusal>
         ensures whole { IfOk result (λ _. awaited self.next ≡ None) }
         ensures agrees { IfOk result (λ _. contradiction self ≡ None) }
-        ensures form { IfOk result (λ invocation. IsForm (shape_of self) invocation.request.form) }
+        ensures form { IfOk result (λ invocation. IsForm (writing_of self) invocation.request.form) }
         ensures sources { IfOk result (λ invocation. map named_source invocation.request.sources.items ≡ files_of self) }
         ensures steps { IfOk result (λ invocation. map (λ words. map string_bytes words.items) invocation.request.steps.items ≡ (step_ended self).steps) }
         ensures checks_steps { IfOk result (λ invocation. invocation.request.checks_steps ≡ self.checks_steps) }
@@ -212,7 +212,15 @@ fn form_of(
     header: usize,
     caption: Option<String>,
 ) -> Form
-    ensures { IsForm (record { how = written; look = look; width = width; alignments = alignments.items; separator = separator; header = header; caption = option_map string_bytes caption }) result }
+    ensures { IsForm (record {
+      how = written;
+      look = look;
+      width = width;
+      alignments = alignments.items;
+      separator = separator;
+      header = header;
+      caption = option_map string_bytes caption;
+    }) result }
 {
     match written {
         Written::Script => Form::Script,
