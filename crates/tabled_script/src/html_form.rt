@@ -45,18 +45,27 @@ pub(crate) fn write_html<W: Write>(
     ensures refused { OnErr result (W.contents writer.new ≡ W.contents writer.old) }
 {
     let alignments = html_alignments(alloc, &page.alignments)?;
-    let mut look = Page::new().header(page.header).alignments(&alignments);
-    if let Some(caption) = &page.caption {
-        look = look.caption(caption.as_str());
-    }
-    if page.is_whole {
-        look = look.whole();
-    }
+    let look = look_with(page, &alignments);
     match write_with(alloc, writer, records, spans, &look) {
         Ok(()) => Ok(writer.flush()),
         Err(WriteError::OutOfMemory) => Err(AllocError),
         Err(WriteError::Failed(error)) => Ok(Err(error)),
     }
+}
+
+/// How a table is written, as it is asked for, with these alignments.
+fn look_with<'p>(page: &'p HtmlPage, alignments: &'p [tabled_html::Alignment]) -> Page<'p>
+    ensures { result ≡ record (look_of page.now) { alignments = alignments.now } }
+{
+    let look = Page::new().header(page.header).alignments(alignments);
+    let look = match &page.caption {
+        Some(caption) => look.caption(caption.as_str()),
+        None => look,
+    };
+    if page.is_whole {
+        return look.whole();
+    }
+    look
 }
 
 /// Where texts stand in their cells, as they stand in those of a picture.
