@@ -1,12 +1,12 @@
 -- What outcomes say.
 use Rattle.std.specs.Io.KnownBytes.{Appends}
 use Rattle.tabled_language.specs.declared.fault.Fault.{Fault}
-use Rattle.tabled_script.proofs.Common.{◌≡◌, ◌⊎◌, Err, List, Ok, Option, Result, Script, State, arith, ended, inl, inr, subst, ℕ}
+use Rattle.tabled_script.proofs.Common.{◌≡◌, ◌⊎◌, Err, List, Ok, Option, Result, Script, State, arith, ended, inl, inr, subst, sym, ℕ}
 use Rattle.std.specs.Result.{OnErr}
 use Rattle.tabled_script.specs.Answer.{IsUndrawn, ShowsState, fault_line, memory_line}
 use Rattle.tabled_script.specs.Inputs.{HasFaulty, HeadsDiffer, NoTable}
 use Rattle.tabled_script.specs.Outcome.{Comes, ComesOfState, Ends, GivesNoTable, IfDrawn, IfUndrawn, IfWritten, outcome_of_drawing, outcome_of_writing, status_of, status_of_error}
-use Rattle.tabled_script.specs.Status.{done, faulty, out_of_memory}
+use Rattle.tabled_script.specs.Status.{IsStatus, done, faulty, out_of_memory}
 use Rattle.tabled_script.specs.declared.form.Form.{Form}
 use Rattle.tabled_script.specs.declared.inputs.JoinError.TheVariants as join_error
 use Rattle.tabled_script.specs.declared.inputs.RowsError.TheVariants as rows_error
@@ -15,6 +15,7 @@ use Rattle.tabled_script.specs.declared.inputs.SourcesError.TheVariants.{Unjoine
 use Rattle.tabled_script.specs.declared.outcome.Outcome.{Outcome}
 use Rattle.tabled_script.specs.declared.outcome.Outcome.TheVariants.{Failed, Faulty, OutOfMemory, TooNarrow, Written}
 use Rattle.tabled_script.specs.declared.picture.TooNarrow.{TooNarrow as Narrow}
+use Rattle.tabled_script.specs.declared.request.Source.{Source}
 
 module _ (how : Form) (s : State) (old new : Option (List ℕ)) where
   -- of a table that was written, or wasn't
@@ -68,17 +69,56 @@ module _ (how : Form) (read : Result Script (ℕ × Fault)) (old new : Option (L
   is_out_of_memory Failed comes is = absurd (omega (arith, is))
 
 -- why files have no table, where that is no want of memory
-pub faulty_files : (sources : List _) (error : SourcesError) → NoTable sources error → status_of_error error ≡ faulty → HasFaulty sources ⊎ HeadsDiffer sources
+pub faulty_files : (sources : List Source) (error : SourcesError) → NoTable sources error → status_of_error error ≡ faulty → HasFaulty sources ⊎ HeadsDiffer sources
 faulty_files sources (Unread index (rows_error.Faulty line fault)) none is = inl none
 faulty_files sources (Unread index rows_error.OutOfMemory) none is = absurd (omega (arith, is))
 faulty_files sources (Unjoined index (join_error.Differs head first)) none is = inr none
 faulty_files sources (Unjoined index join_error.OutOfMemory) none is = absurd (omega (arith, is))
 
 -- how a run ends, by the status that it ends with
-module _ (how : Form) (read : Result Script (ℕ × Fault)) (old mid new : Option (List ℕ)) (status : ℕ) where
-  pub ends_done : (outcome : Outcome) → Comes how read old mid outcome → Ends outcome status mid new → status ≡ done → (script : Script) × (read ≡ Ok script) × ShowsState how (ended script) old new
-  ends_done Written comes ends is = (comes.0, comes.1, subst (λ it. ShowsState how (ended comes.0) old it) (cc (ends.1)) comes.2)
-  ends_done (Faulty line fault) comes ends is = absurd (grind (arith, is, ends))
-  ends_done (TooNarrow narrow) comes ends is = absurd (omega (arith, is, ends.0))
-  ends_done OutOfMemory comes ends is = absurd (grind (arith, is, ends))
-  ends_done Failed comes ends is = absurd (omega (arith, is, ends))
+module _ (old mid new : Option (List ℕ)) (status : ℕ) where
+  pub ends_known : (outcome : Outcome) → Ends outcome status mid new → IsStatus status
+  ends_known Written ends = inl ends.0
+  ends_known (Faulty line fault) (inl (inl fails)) = inr (inr (inr fails))
+  ends_known (Faulty line fault) (inl (inr told)) = inr (inl told.0)
+  ends_known (Faulty line fault) (inr (inl fails)) = inr (inr (inr fails))
+  ends_known (Faulty line fault) (inr (inr told)) = inr (inr (inl told.0))
+  ends_known (TooNarrow narrow) ends = inr (inl ends.0)
+  ends_known OutOfMemory (inl fails) = inr (inr (inr fails))
+  ends_known OutOfMemory (inr told) = inr (inr (inl told.0))
+  ends_known Failed ends = inr (inr (inr ends))
+
+  module _ (how : Form) (read : Result Script (ℕ × Fault)) where
+    pub ends_done : (outcome : Outcome) → Comes how read old mid outcome → Ends outcome status mid new → status ≡ done → (script : Script) × (read ≡ Ok script) × ShowsState how (ended script) old new
+    ends_done Written comes ends is = (comes.0, comes.1, subst (λ it. ShowsState how (ended comes.0) old it) (sym ends.1) comes.2)
+    ends_done (Faulty line fault) comes (inl (inl fails)) is = absurd (omega (arith, is, fails))
+    ends_done (Faulty line fault) comes (inl (inr told)) is = absurd (omega (arith, is, told.0))
+    ends_done (Faulty line fault) comes (inr (inl fails)) is = absurd (omega (arith, is, fails))
+    ends_done (Faulty line fault) comes (inr (inr told)) is = absurd (omega (arith, is, told.0))
+    ends_done (TooNarrow narrow) comes ends is = absurd (omega (arith, is, ends.0))
+    ends_done OutOfMemory comes (inl fails) is = absurd (omega (arith, is, fails))
+    ends_done OutOfMemory comes (inr told) is = absurd (omega (arith, is, told.0))
+    ends_done Failed comes ends is = absurd (omega (arith, is, ends))
+
+    pub ends_faulty : (outcome : Outcome) → Comes how read old mid outcome → Ends outcome status mid new → status ≡ faulty
+        → ((fault : ℕ × Fault) × (read ≡ Err fault) × Appends old new (fault_line fault)) ⊎ ((script : Script) × (read ≡ Ok script) × IsUndrawn how (ended script))
+    ends_faulty Written comes ends is = absurd (omega (arith, is, ends.0))
+    ends_faulty (Faulty line fault) comes (inl (inl fails)) is = absurd (omega (arith, is, fails))
+    ends_faulty (Faulty line fault) comes (inl (inr told)) is = inl ((line, fault), comes.0, subst (λ it. Appends it new (fault_line (line, fault))) comes.1 told.1)
+    ends_faulty (Faulty line fault) comes (inr (inl fails)) is = absurd (omega (arith, is, fails))
+    ends_faulty (Faulty line fault) comes (inr (inr told)) is = absurd (omega (arith, is, told.0))
+    ends_faulty (TooNarrow narrow) comes ends is = inr (comes.0, comes.1, comes.2)
+    ends_faulty OutOfMemory comes (inl fails) is = absurd (omega (arith, is, fails))
+    ends_faulty OutOfMemory comes (inr told) is = absurd (omega (arith, is, told.0))
+    ends_faulty Failed comes ends is = absurd (omega (arith, is, ends))
+
+    pub ends_out_of_memory : (outcome : Outcome) → Comes how read old mid outcome → Ends outcome status mid new → status ≡ out_of_memory → Appends old new memory_line
+    ends_out_of_memory Written comes ends is = absurd (omega (arith, is, ends.0))
+    ends_out_of_memory (Faulty line fault) comes (inl (inl fails)) is = absurd (omega (arith, is, fails))
+    ends_out_of_memory (Faulty line fault) comes (inl (inr told)) is = absurd (omega (arith, is, told.0))
+    ends_out_of_memory (Faulty line fault) comes (inr (inl fails)) is = absurd (omega (arith, is, fails))
+    ends_out_of_memory (Faulty line fault) comes (inr (inr told)) is = subst (λ it. Appends it new memory_line) comes.1 told.1
+    ends_out_of_memory (TooNarrow narrow) comes ends is = absurd (omega (arith, is, ends.0))
+    ends_out_of_memory OutOfMemory comes (inl fails) is = absurd (omega (arith, is, fails))
+    ends_out_of_memory OutOfMemory comes (inr told) is = subst (λ it. Appends it new memory_line) comes told.1
+    ends_out_of_memory Failed comes ends is = absurd (omega (arith, is, ends))

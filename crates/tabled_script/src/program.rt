@@ -108,7 +108,9 @@ pub fn answer<W: Write, E: Write>(
             return OUT_OF_MEMORY;
         }
     };
-    match rows_of_sources(alloc, &request.sources, &mut Spare::new(&mut room)) {
+    let sources = request.sources.as_slice();
+    let mut spare = Spare::new(&mut room);
+    match rows_of_sources(alloc, sources, &mut spare) {
         Ok(rows) => {
             let lines = Lines {
                 rows: rows.len(),
@@ -120,7 +122,7 @@ pub fn answer<W: Write, E: Write>(
             outcome.status()
         }
         Err(error) => {
-            tell_sources_error(alloc, &request.sources, &error, errors);
+            tell_sources_error(alloc, sources, &error, errors);
             error.status()
         }
     }
@@ -130,8 +132,8 @@ pub fn answer<W: Write, E: Write>(
 /// status.
 fn run_to_form<R: Read, W: Write>(alloc: Global, form: Form, reader: &mut R, writer: &mut W) -> u8
     ensures known { IsStatus result }
-    ensures done { result ≡ done → IfSome (R.remaining reader.old) (λ input. ShowsTable form.entry input (W.contents writer.old) (W.contents writer.new)) }
-    ensures faulty { result ≡ faulty → IfSome (R.remaining reader.old) (λ input. ShowsNoTable form.entry input (W.contents writer.old) (W.contents writer.new)) }
+    ensures done { result ≡ done → IfSome (R.remaining reader.old) (λ input. ShowsTable form input (W.contents writer.old) (W.contents writer.new)) }
+    ensures faulty { result ≡ faulty → IfSome (R.remaining reader.old) (λ input. ShowsNoTable form input (W.contents writer.old) (W.contents writer.new)) }
     ensures memory { result ≡ out_of_memory → Appends (W.contents writer.old) (W.contents writer.new) memory_line }
 {
     let script = match read_whole(alloc, reader) {

@@ -16,27 +16,27 @@ const TOLD: usize = 400;
 
 /// What a script is read from, as who wrote it counts.
 #[derive(Clone, Copy)]
-pub(crate) struct Lines<'a> {
+pub(crate) struct Lines<'s, 'r> {
     /// How many rows stand before the lines of the script.
     pub(crate) rows: usize,
-    pub(crate) script: &'a [u8],
-    pub(crate) steps: &'a [Vec<String>],
+    pub(crate) script: &'s [u8],
+    pub(crate) steps: &'r [Vec<String>],
 }
 
-impl<'a> Lines<'a> {
+impl<'s, 'r> Lines<'s, 'r> {
     /// Where the line of a number stands.
     fn origin(&self, number: usize) -> Origin {
         origin_of(self.rows, count_lines(self.script), number)
     }
 
     /// A line of the script, by its number there.
-    fn line(&self, number: usize) -> &'a [u8] {
+    fn line(&self, number: usize) -> &'s [u8] {
         let mut lines = self.script.split(|byte| *byte == b'\n');
         lines.nth(number.saturating_sub(1)).unwrap_or(&[])
     }
 
     /// The words of a step, by its number.
-    fn step(&self, number: usize) -> &'a [String] {
+    fn step(&self, number: usize) -> &'r [String] {
         match self.steps.get(number.saturating_sub(1)) {
             Some(words) => words,
             None => &[],
