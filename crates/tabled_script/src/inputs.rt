@@ -13,7 +13,7 @@ use crate::csv_form::csv_rows;
 use crate::outcome::{FAULTY, OUT_OF_MEMORY};
 use crate::request::{Format, Source};
 use std::alloc::{AllocError, Global};
-use tabled_csv::Spare;
+use tabled_csv::{Room, Spare};
 use tabled_grid::records::CellText;
 use tabled_language::LentText;
 
@@ -68,14 +68,15 @@ impl SourcesError<'_> {
 pub(crate) fn rows_of_sources<'a>(
     alloc: Global,
     sources: &'a [Source],
-    spare: &mut Spare<'a>,
+    room: &'a mut Room,
 ) -> Result<Vec<Vec<LentText<'a>>>, SourcesError<'a>>
     ensures { MatchResult result (λ rows. HasTable sources.now (texts_in_records rows.items)) (NoTable sources.now) }
 {
+    let mut spare = Spare::new(room);
     let mut rows = Vec::new(alloc);
     let mut index = 0;
     for source in sources {
-        match rows_of(alloc, source, spare) {
+        match rows_of(alloc, source, &mut spare) {
             Ok(others) => match joined(rows, others) {
                 Ok(all) => rows = all,
                 Err(error) => return Err(SourcesError::Unjoined(index, error)),

@@ -21,7 +21,7 @@ use crate::request::Request;
 use crate::telling::{Lines, tell_outcome, tell_sources_error, tell_status};
 use std::alloc::{AllocError, Global};
 use std::io::{self, Read, Write};
-use tabled_csv::{Room, Spare};
+use tabled_csv::Room;
 use tabled_draw::Style;
 use tabled_language::Fault;
 
@@ -109,8 +109,7 @@ pub fn answer<W: Write, E: Write>(
         }
     };
     let sources = request.sources.as_slice();
-    let mut spare = Spare::new(&mut room);
-    match rows_of_sources(alloc, sources, &mut spare) {
+    match rows_of_sources(alloc, sources, &mut room) {
         Ok(rows) => {
             let lines = Lines {
                 rows: rows.len(),
