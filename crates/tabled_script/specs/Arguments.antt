@@ -1,8 +1,10 @@
 -- What the arguments of the program ask for: options, some with a value behind them, and then the words of steps.
-use Rattle.std.specs.Prelude.{ℕ, Bool, true, false, ◌==◌, ◌&&◌, ◌||◌, nat_lt, not, if◌then◌else◌, List, [], ◌∷◌, ◌++◌, codes, length, slice_index, Option, None, Some, Result, Ok, Err}
+use Rattle.std.specs.Prelude.{ℕ, Bool, true, false, ◌==◌, ◌&&◌, ◌||◌, nat_lt, not, if◌then◌else◌, List, [], ◌∷◌, ◌++◌, codes, length, slice_index, Option, None, Some, Result, Ok, Err, String, map}
+use Rattle.std.specs.Global.{Global, Vec}
 use Rattle.std.specs.List.{after_first, before_first, position_or_len}
 use Rattle.std.specs.Option.{is_some}
 use Rattle.std.specs.Str.{bytes_eq}
+use Rattle.std.specs.String.{string_bytes}
 use Rattle.tabled_draw.specs.declared.alignment.Alignment.{Alignment}
 use Rattle.tabled_language.specs.Word.{length_of}
 use Rattle.tabled_script.specs.Settings.{alignments_of, drawn_named, forms, named_in, options, read_by, separator_of, takes_value}
@@ -139,6 +141,14 @@ with_dashed argument asked =
     else (if nat_lt (position_or_len is_equals argument) (length argument)
     then with_option_and_value (named_in options (before_first is_equals argument)) (before_first is_equals argument) (after_first is_equals argument) asked
     else with_option (named_in options argument) argument asked)
+
+-- files by their names
+abbrev pub named_files : List (Kind × String Global) → List (Kind × List ℕ)
+named_files files = map (λ file. (file.0, string_bytes file.1)) files
+
+-- the words of steps
+abbrev pub words_of : List (Vec (String Global)) → List (List (List ℕ))
+words_of steps = map (λ words. map string_bytes words.items) steps
 
 -- the words of a step, if it has any
 abbrev pub step_of : List (List ℕ) → List (List (List ℕ))

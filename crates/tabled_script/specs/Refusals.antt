@@ -112,6 +112,10 @@ option_text option = codes "there is no option " ++ (option ++ cure_of option (m
 unfoldable pub reading_options : List ℕ → List ℕ
 reading_options name = unwrap_or (read_by name) (codes "--csv")
 
+-- that a step begins with the name of a file, and how that is read
+abbrev pub file_text : List ℕ → List ℕ
+file_text name = name ++ (codes " is a file: " ++ (reading_options name ++ (32 ∷ name)))
+
 -- what is wrong with an argument, or this part of it
 abbrev pub misuse_text : Misuse → List ℕ → List ℕ
 misuse_text misuse.NoOption option = option_text option
@@ -119,7 +123,7 @@ misuse_text (misuse.WrongValue setting) value = value_text setting value
 misuse_text (misuse.NeedlessValue setting) value = name_of setting ++ codes " takes no value"
 misuse_text (misuse.Repeated setting) value = name_of setting ++ codes " stands here twice"
 misuse_text misuse.InputRepeated name = codes "standard input is read once: - stands here twice"
-misuse_text misuse.FileAsStep name = name ++ (codes " is a file: " ++ (reading_options name ++ (32 ∷ name)))
+misuse_text misuse.FileAsStep name = file_text name
 
 -- what is told of a refusal
 abbrev pub refusal_text : Refusal → List ℕ

@@ -122,6 +122,10 @@ width_of asked = if is_some asked.width || is_some asked.output then asked.width
 abbrev pub separator_of : Asked → ℕ
 separator_of asked = unwrap_or asked.separator 44
 
+-- what parts the fields of CSV that is written
+abbrev pub to_separator_of : Asked → ℕ
+to_separator_of asked = unwrap_or asked.to_separator (separator_of asked)
+
 -- it is HTML, and whether that is a page of its own
 abbrev pub IsHtml : Written → Bool → Type 0
 IsHtml written.Html is_whole = is_whole ≡ false
@@ -156,7 +160,7 @@ writing_of asked = record {
   look = drawn_of asked;
   width = width_of asked;
   alignments = unwrap_or asked.alignments [];
-  separator = unwrap_or asked.to_separator (separator_of asked);
+  separator = to_separator_of asked;
   header = unwrap_or asked.header 0;
   caption = asked.caption;
 }
@@ -174,6 +178,10 @@ abbrev pub script_of : Option (List ℕ) → Bool → Option (List ℕ)
 script_of None true = Some (codes "-")
 script_of script is_alone = script
 
+-- files of rows, of which no byte is read
+abbrev pub unread_files : ℕ → List (Kind × List ℕ) → List (Format × (List ℕ × List ℕ))
+unread_files separator files = map (λ file. (format_of separator file.0, (file.1, []))) files
+
 -- the files of rows that are asked for, and nothing of their bytes
 abbrev pub files_of : Asked → List (Format × (List ℕ × List ℕ))
-files_of asked = map (λ file. (format_of (separator_of asked) file.0, (file.1, []))) asked.sources
+files_of asked = unread_files (separator_of asked) asked.sources

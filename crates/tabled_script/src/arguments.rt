@@ -1,9 +1,9 @@
 //! The arguments of the program: options, and then steps.
 
 ghost use Rattle.std.specs.Option.{option_map};
-ghost use Rattle.std.specs.Prelude.{◌≡◌, IfOk, OnOk};
+ghost use Rattle.std.specs.Prelude.{◌≡◌, ◌++◌, IfOk, OnOk, map};
 ghost use Rattle.std.specs.String.{string_bytes};
-ghost use Rattle.tabled_script.specs.Arguments.{file_named, has_taken, is_input, is_set, names_input, reads_input_again, set_to, step_ended, taken, with_dashed, with_first_value, with_option, with_option_and_value, with_value, with_word};
+ghost use Rattle.tabled_script.specs.Arguments.{file_named, has_taken, is_input, is_set, names_input, reads_input_again, set_to, step_ended, step_of, taken, with_dashed, with_first_value, with_option, with_option_and_value, with_value, with_word, words_of};
 ghost use Rattle.tabled_script.specs.Refusals.{IsRefused, Takes};
 ghost use Rattle.tabled_script.specs.Requests.{nothing_asked};
 ghost use Rattle.tabled_script.specs.Settings.{named_in, options};
@@ -62,7 +62,7 @@ impl Model for Arguments {
     ghost use Rattle.std.specs.Option.{option_map};
     ghost use Rattle.std.specs.Prelude.{map};
     ghost use Rattle.std.specs.String.{string_bytes};
-    ghost use Rattle.tabled_script.specs.Arguments.{Asked};
+    ghost use Rattle.tabled_script.specs.Arguments.{Asked, named_files, words_of};
 
     ghost Value = { Asked };
 
@@ -74,7 +74,7 @@ impl Model for Arguments {
       alignments = option_map (λ list. list.items) a.alignments;
       width = a.width;
       columns = a.columns;
-      sources = map (λ source. (source.0, string_bytes source.1)) a.sources.items;
+      sources = named_files a.sources.items;
       separator = a.separator;
       to_separator = a.to_separator;
       header = a.header;
@@ -82,7 +82,7 @@ impl Model for Arguments {
       script = option_map string_bytes a.script;
       output = option_map string_bytes a.output;
       reads_input = a.reads_input;
-      steps = map (λ words. map string_bytes words.items) a.steps.items;
+      steps = words_of a.steps.items;
       step = map string_bytes a.step.items;
       checks_steps = a.checks_steps;
     } };
@@ -297,16 +297,23 @@ impl Arguments {
     }
 
     /// Ends the step that has not ended, if it has words.
-    #[tactic(auto, using(crate::proofs::Taken::no_step, crate::proofs::Taken::one_step))]
-    pub(crate) fn end_step(&mut self, alloc: Global) -> Result<(), AllocError>
+    fn end_step(&mut self, alloc: Global) -> Result<(), AllocError>
         ensures { OnOk result (self.new ≡ step_ended self.old) }
     {
-        if !self.step.is_empty() {
-            let step = mem::replace(&mut self.step, Vec::new(alloc));
-            self.steps.push(step)?;
-        }
-        Ok(())
+        let step = mem::replace(&mut self.step, Vec::new(alloc));
+        push_step(&mut self.steps, step)
     }
+}
+
+/// Adds a step, if it has words.
+#[tactic(auto, using(crate::proofs::Taken::no_step, crate::proofs::Taken::one_step))]
+pub(crate) fn push_step(steps: &mut Vec<Vec<String>>, step: Vec<String>) -> Result<(), AllocError>
+    ensures { OnOk result (words_of steps.new.items ≡ words_of steps.old.items ++ step_of (map string_bytes step.items)) }
+{
+    if !step.is_empty() {
+        steps.push(step)?;
+    }
+    Ok(())
 }
 
 /// The refusal of an argument, or of a part of it.

@@ -2,12 +2,12 @@
 
 ghost use Rattle.std.specs.List.{find};
 ghost use Rattle.std.specs.Option.{option_map, unwrap_or};
-ghost use Rattle.std.specs.Prelude.{◌≡◌, ◌&&◌, ◌==◌, [], IfErr, IfOk, None, length, map, not};
+ghost use Rattle.std.specs.Prelude.{◌≡◌, ◌++◌, ◌&&◌, ◌==◌, [], IfErr, IfOk, None, length, map, not};
 ghost use Rattle.std.specs.String.{string_bytes};
-ghost use Rattle.tabled_script.specs.Arguments.{is_set, step_ended};
-ghost use Rattle.tabled_script.specs.Requests.{IsForm, IsUnmade, awaited, contradiction, deciding, drawn_of, files_of, format_of, goes_with, named_source, says_html, script_of, separator_of, settings_of_forms, writing_of, width_of, written_of};
+ghost use Rattle.tabled_script.specs.Arguments.{is_set, named_files, step_of, words_of};
+ghost use Rattle.tabled_script.specs.Requests.{IsForm, IsUnmade, awaited, contradiction, deciding, drawn_of, files_of, format_of, goes_with, named_source, says_html, script_of, separator_of, settings_of_forms, to_separator_of, unread_files, writing_of, width_of, written_of};
 
-use crate::arguments::{Arguments, Next};
+use crate::arguments::{Arguments, Next, push_step};
 use crate::form::Form;
 use crate::html_form::HtmlPage;
 use crate::refusal::Refusal;
@@ -45,13 +45,12 @@ const SETTINGS_OF_FORMS: [Setting; 8] = [
 impl Arguments {
     /// What was asked for. The bytes of files are not read yet. It is refused where the last option lacks its value, or two
     /// contradict each other.
-    #[tactic(auto, using(crate::proofs::Taken::form_as))]
-    pub fn into_invocation(mut self, alloc: Global) -> Result<Invocation, Refusal>
+    pub fn into_invocation(self, alloc: Global) -> Result<Invocation, Refusal>
         ensures whole { IfOk result (λ _. awaited self.next ≡ None) }
         ensures agrees { IfOk result (λ _. contradiction self ≡ None) }
         ensures form { IfOk result (λ invocation. IsForm (writing_of self) invocation.request.form) }
         ensures sources { IfOk result (λ invocation. map named_source invocation.request.sources.items ≡ files_of self) }
-        ensures steps { IfOk result (λ invocation. map (λ words. map string_bytes words.items) invocation.request.steps.items ≡ (step_ended self).steps) }
+        ensures steps { IfOk result (λ invocation. words_of invocation.request.steps.items ≡ self.steps ++ step_of self.step) }
         ensures checks_steps { IfOk result (λ invocation. invocation.request.checks_steps ≡ self.checks_steps) }
         ensures script { IfOk result (λ invocation. option_map string_bytes invocation.script ≡ script_of self.script (length self.sources == 0)) }
         ensures output { IfOk result (λ invocation. option_map string_bytes invocation.output ≡ self.output) }
@@ -63,24 +62,26 @@ impl Arguments {
         if let Some((first, other)) = self.contradiction() {
             return Err(Refusal::Contradictory(first, other));
         }
-        self.end_step(alloc)?;
         let written = self.written();
         let look = self.look();
         let width = self.picture_width();
-        let separator = self.separator();
-        let to_separator = self.to_separator.unwrap_or(separator);
-        let header = self.header.unwrap_or(0);
+        let separator = self.read_separator();
+        let to_separator = self.written_separator();
+        let header = self.header_rows();
+        let is_alone = self.is_without_files();
         let Arguments {
             alignments,
             caption,
             sources,
             script,
             output,
-            steps,
+            mut steps,
+            step,
             checks_steps,
             ..
         } = self;
-        let script = script_of(alloc, script, sources.is_empty())?;
+        push_step(&mut steps, step)?;
+        let script = script_of(alloc, script, is_alone)?;
         let alignments = listed(alloc, alignments);
         let form = form_of(
             written,
@@ -125,13 +126,37 @@ impl Arguments {
     }
 
     /// What parts the fields of the files that are read.
-    fn separator(&self) -> Separator
+    fn read_separator(&self) -> Separator
         ensures { result ≡ separator_of self.now }
     {
         match self.separator {
             Some(separator) => separator,
             None => Separator::comma(),
         }
+    }
+
+    /// What parts the fields of CSV that is written.
+    fn written_separator(&self) -> Separator
+        ensures { result ≡ to_separator_of self.now }
+    {
+        match self.to_separator {
+            Some(separator) => separator,
+            None => self.read_separator(),
+        }
+    }
+
+    /// How many rows are the header of a table of HTML.
+    fn header_rows(&self) -> usize
+        ensures { result ≡ unwrap_or self.now.header 0 }
+    {
+        self.header.unwrap_or(0)
+    }
+
+    /// Says whether there is no file of rows.
+    fn is_without_files(&self) -> bool
+        ensures { result ≡ (length self.now.sources == 0) }
+    {
+        self.sources.is_empty()
     }
 
     /// What the table is written as.
@@ -275,7 +300,7 @@ fn unread(
     files: Vec<(Kind, String)>,
     separator: Separator,
 ) -> Result<Vec<Source>, AllocError>
-    ensures { IfOk result (λ sources. map named_source sources.items ≡ map (λ file. (format_of separator file.0, (string_bytes file.1, []))) files.items) }
+    ensures { IfOk result (λ sources. map named_source sources.items ≡ unread_files separator (named_files files.items)) }
 {
     let mut sources = Vec::new(alloc);
     for (kind, name) in files {

@@ -4,7 +4,7 @@ ghost use Rattle.std.specs.List.{flat_map};
 ghost use Rattle.std.specs.Option.{option_map};
 ghost use Rattle.std.specs.Prelude.{◌≡◌, ◌++◌, ◌∷◌, IfOk, OnOk, map};
 ghost use Rattle.std.specs.String.{string_bytes};
-ghost use Rattle.tabled_script.specs.Refusals.{GetsFirst, failure_of, failure_text, meant_in, misuse_text, names_text, option_text, reading_options, refusal_line, refusal_text, status_of, value_text};
+ghost use Rattle.tabled_script.specs.Refusals.{GetsFirst, cure_of, failure_of, failure_text, file_text, meant_in, misuse_text, names_text, option_text, reading_options, refusal_line, refusal_text, status_of, value_text};
 
 use crate::outcome::{FAILED, OUT_OF_MEMORY};
 use crate::setting::{FORMS, OPTIONS, Setting, read_by};
@@ -180,11 +180,18 @@ fn misuse_text(alloc: Global, misuse: Misuse, argument: &str) -> Result<String, 
         Misuse::InputRepeated => {
             format!(in alloc; "standard input is read once: - stands here twice")
         }
-        Misuse::FileAsStep => {
-            let options = reading_options(argument);
-            format!(in alloc; "{argument} is a file: {options} {argument}")
-        }
+        Misuse::FileAsStep => file_text(alloc, argument),
     }
+}
+
+/// That a step begins with the name of a file, and how that is read.
+fn file_text(alloc: Global, name: &str) -> Result<String, AllocError>
+    ensures { IfOk result (λ text. string_bytes text ≡ file_text name.now) }
+{
+    let options = reading_options(name);
+    let mut text = format!(in alloc; "{name} is a file: {options} ")?;
+    text.push_str(name)?;
+    Ok(text)
 }
 
 /// The options that read a file, as its name ends.
@@ -202,13 +209,24 @@ fn reading_options(name: &str) -> &'static str
 fn option_text(alloc: Global, option: &str) -> Result<String, AllocError>
     ensures { IfOk result (λ text. string_bytes text ≡ option_text option.now) }
 {
-    match meant_in(option, &OPTIONS) {
-        Some(meant) if meant == option => {
-            format!(in alloc; "there is no option {option} here: it stands first")
-        }
-        Some(meant) => format!(in alloc; "there is no option {option}; maybe {meant} is meant"),
-        None => format!(in alloc; "there is no option {option}: --help lists them"),
+    let mut text = format!(in alloc; "there is no option {option}")?;
+    push_cure(&mut text, option, meant_in(option, &OPTIONS))?;
+    Ok(text)
+}
+
+/// Adds which option may be meant by one that isn't known here, or where they are listed.
+fn push_cure(text: &mut String, option: &str, meant: Option<&str>) -> Result<(), AllocError>
+    ensures { OnOk result (string_bytes text.new ≡ string_bytes text.old ++ cure_of option.now (option_map (λ it. it.now) meant)) }
+{
+    let Some(meant) = meant else {
+        return text.push_str(": --help lists them");
+    };
+    if meant == option {
+        return text.push_str(" here: it stands first");
     }
+    text.push_str("; maybe ")?;
+    text.push_str(meant)?;
+    text.push_str(" is meant")
 }
 
 /// The option that may be meant by a word.
