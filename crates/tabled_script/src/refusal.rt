@@ -216,7 +216,7 @@ fn option_text(alloc: Global, option: &str) -> Result<String, AllocError>
 
 /// Adds which option may be meant by one that isn't known here, or where they are listed.
 fn push_cure(text: &mut String, option: &str, meant: Option<&str>) -> Result<(), AllocError>
-    ensures { OnOk result (string_bytes text.new ≡ string_bytes text.old ++ cure_of option.now (option_map (λ it. it.now) meant)) }
+    ensures { OnOk result (string_bytes text.new ≡ string_bytes text.old ++ cure_of option.now (option_map (λ it. it.now) meant.entry)) }
 {
     let Some(meant) = meant else {
         return text.push_str(": --help lists them");
