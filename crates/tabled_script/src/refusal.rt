@@ -188,8 +188,10 @@ fn misuse_text(alloc: Global, misuse: Misuse, argument: &str) -> Result<String, 
 fn file_text(alloc: Global, name: &str) -> Result<String, AllocError>
     ensures { IfOk result (λ text. string_bytes text ≡ file_text name.now) }
 {
-    let options = reading_options(name);
-    let mut text = format!(in alloc; "{name} is a file: {options} ")?;
+    let mut text = String::from_str(alloc, name)?;
+    text.push_str(" is a file: ")?;
+    text.push_str(reading_options(name))?;
+    text.push_str(" ")?;
     text.push_str(name)?;
     Ok(text)
 }
@@ -209,7 +211,8 @@ fn reading_options(name: &str) -> &'static str
 fn option_text(alloc: Global, option: &str) -> Result<String, AllocError>
     ensures { IfOk result (λ text. string_bytes text ≡ option_text option.now) }
 {
-    let mut text = format!(in alloc; "there is no option {option}")?;
+    let mut text = String::from_str(alloc, "there is no option ")?;
+    text.push_str(option)?;
     push_cure(&mut text, option, meant_in(option, &OPTIONS))?;
     Ok(text)
 }
@@ -226,7 +229,8 @@ fn push_cure(text: &mut String, option: &str, meant: Option<&str>) -> Result<(),
     }
     text.push_str("; maybe ")?;
     text.push_str(meant)?;
-    text.push_str(" is meant")
+    text.push_str(" is meant")?;
+    Ok(())
 }
 
 /// The option that may be meant by a word.
