@@ -5,7 +5,7 @@ use Rattle.std.specs.String.{string_bytes}
 use Rattle.tabled_draw.specs.declared.alignment.Alignment.{Alignment}
 use Rattle.tabled_script.proofs.Common.{[], ◌∙◌, ◌∷◌, ◌≡◌, Global, List, Option, ap, inl, inr, length, map, refl, subst, sym, ℕ}
 use Rattle.tabled_script.specs.Arguments.{Asked, Blamed, expect, has_taken, set_to, step_of, with_first_value}
-use Rattle.tabled_script.specs.Refusals.{IsRefused, Refuses, Takes}
+use Rattle.tabled_script.specs.Refusals.{IsRefused, Takes}
 use Rattle.tabled_script.specs.Requests.{IsForm, drawn_of, to_separator_of, width_of, writing_of, written_of}
 use Rattle.tabled_script.specs.declared.form.Form.{Form}
 use Rattle.tabled_script.specs.declared.arguments.Next.TheVariants as next

@@ -2,7 +2,7 @@
 use Rattle.std.proofs.lemmas.Str.Pattern.{ends_text}
 use Rattle.std.specs.List.{ends_with}
 use Rattle.std.specs.Prelude.{◌==◌, Bool, codes, false, if◌then◌else◌}
-use Rattle.tabled_script.proofs.Common.{◌∙◌, ◌≡◌, List, None, Option, Some, ap₂, sym, ℕ}
+use Rattle.tabled_script.proofs.Common.{◌∙◌, ◌≡◌, List, None, Some, ap₂, sym, ℕ}
 use Rattle.tabled_script.proofs.setting.read_by.Goals as goal
 use Rattle.tabled_script.specs.Settings.{read_by}
 

@@ -2,8 +2,7 @@
 use Rattle.std.specs.Option.{option_map, unwrap_or}
 use Rattle.std.specs.Prelude.{Bool}
 use Rattle.std.specs.String.{string_bytes}
-use Rattle.tabled_draw.specs.declared.alignment.Alignment.{Alignment}
-use Rattle.tabled_script.proofs.Common.{[], ◌∙◌, ◌≡◌, List, Option, ap, ap₂, ℕ}
+use Rattle.tabled_script.proofs.Common.{[], ◌∙◌, List, Option, ap, ap₂, ℕ}
 use Rattle.tabled_script.proofs.Taken.{written_so}
 use Rattle.tabled_script.specs.Arguments.{Asked}
 use Rattle.tabled_script.specs.Requests.{script_of, unread_files}
