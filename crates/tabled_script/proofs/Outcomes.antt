@@ -1,41 +1,18 @@
 -- What outcomes say.
 use Rattle.std.specs.Io.KnownBytes.{Appends}
+use Rattle.std.specs.Prelude.{String}
+use Rattle.tabled_language.proofs.EndedLines.{parse_between-alone}
+use Rattle.tabled_language.specs.Lent.{texts_in_records}
+use Rattle.tabled_language.specs.Parsing.{cell_texts}
+use Rattle.tabled_language.specs.Script.{parse, parse_between}
 use Rattle.tabled_language.specs.declared.fault.Fault.{Fault}
-use Rattle.tabled_script.proofs.Common.{◌≡◌, ◌⊎◌, Err, List, Ok, Option, Result, Script, State, arith, ended, inl, inr, subst, sym, ℕ}
-use Rattle.std.specs.Result.{OnErr}
+use Rattle.tabled_script.proofs.Common.{[], ◌∙◌, ◌≡◌, ◌⊎◌, Err, Global, LentText, List, Ok, Option, Result, Script, Vec, arith, ended, inl, inr, subst, sym, ℕ}
 use Rattle.tabled_script.specs.Answer.{IsUndrawn, ShowsState, fault_line, memory_line}
-use Rattle.tabled_script.specs.Inputs.{HasFaulty, HeadsDiffer, NoTable}
-use Rattle.tabled_script.specs.Outcome.{Comes, ComesOfState, Ends, GivesNoTable, IfDrawn, IfUndrawn, IfWritten, outcome_of_drawing, outcome_of_writing, status_of, status_of_error}
+use Rattle.tabled_script.specs.Outcome.{Comes, ComesOfState, Ends, GivesNoTable, ShowsNoTable, ShowsTable, status_of}
 use Rattle.tabled_script.specs.Status.{IsStatus, done, faulty, out_of_memory}
 use Rattle.tabled_script.specs.declared.form.Form.{Form}
-use Rattle.tabled_script.specs.declared.inputs.JoinError.TheVariants as join_error
-use Rattle.tabled_script.specs.declared.inputs.RowsError.TheVariants as rows_error
-use Rattle.tabled_script.specs.declared.inputs.SourcesError.{SourcesError}
-use Rattle.tabled_script.specs.declared.inputs.SourcesError.TheVariants.{Unjoined, Unread}
 use Rattle.tabled_script.specs.declared.outcome.Outcome.{Outcome}
 use Rattle.tabled_script.specs.declared.outcome.Outcome.TheVariants.{Failed, Faulty, OutOfMemory, TooNarrow, Written}
-use Rattle.tabled_script.specs.declared.picture.TooNarrow.{TooNarrow as Narrow}
-use Rattle.tabled_script.specs.declared.request.Source.{Source}
-
-module _ (how : Form) (s : State) (old new : Option (List ℕ)) where
-  -- of a table that was written, or wasn't
-  pub of_writing : {U E A : Type 0} (r : Result (Result U E) A) (P : Type 0) → (P → ShowsState how s old new) → IfWritten r P → OnErr r (new ≡ old) → ComesOfState how s old new (outcome_of_writing r)
-  of_writing (Ok (Ok u)) P shows written left = shows written
-  of_writing (Ok (Err e)) P shows written left = tt
-  of_writing (Err e) P shows written left = left
-
-  -- of one of which two facts are known
-  pub of_writing_both : {U E A : Type 0} (r : Result (Result U E) A) (P Q : Type 0) → (P → Q → ShowsState how s old new) → IfWritten r P → IfWritten r Q → OnErr r (new ≡ old) → ComesOfState how s old new (outcome_of_writing r)
-  of_writing_both (Ok (Ok u)) P Q shows one other left = shows one other
-  of_writing_both (Ok (Err e)) P Q shows one other left = tt
-  of_writing_both (Err e) P Q shows one other left = left
-
-  -- of a picture that was drawn, or wasn't
-  pub of_drawing : {U E A : Type 0} (r : Result (Result (Result U E) Narrow) A) (P Q : Type 0) → (P → ShowsState how s old new) → (Q → IsUndrawn how s) → IfDrawn r P → IfUndrawn r (λ narrow. Q) → IfUndrawn r (λ narrow. new ≡ old) → OnErr r (new ≡ old) → ComesOfState how s old new (outcome_of_drawing r)
-  of_drawing (Ok (Ok (Ok u))) P Q shows undrawn drawn none same left = shows drawn
-  of_drawing (Ok (Ok (Err e))) P Q shows undrawn drawn none same left = tt
-  of_drawing (Ok (Err narrow)) P Q shows undrawn drawn none same left = (undrawn none, same)
-  of_drawing (Err e) P Q shows undrawn drawn none same left = left
 
 -- of the state that a script ends with
 pub of_end : (how : Form) (read : Result Script (ℕ × Fault)) (script : Script) (old new : Option (List ℕ)) (outcome : Outcome) → read ≡ Ok script → ComesOfState how (ended script) old new outcome → Comes how read old new outcome
@@ -67,13 +44,6 @@ module _ (how : Form) (read : Result Script (ℕ × Fault)) (old new : Option (L
   is_out_of_memory (TooNarrow narrow) comes is = absurd (omega (arith, is))
   is_out_of_memory OutOfMemory comes is = comes
   is_out_of_memory Failed comes is = absurd (omega (arith, is))
-
--- why files have no table, where that is no want of memory
-pub faulty_files : (sources : List Source) (error : SourcesError) → NoTable sources error → status_of_error error ≡ faulty → HasFaulty sources ⊎ HeadsDiffer sources
-faulty_files sources (Unread index (rows_error.Faulty line fault)) none is = inl none
-faulty_files sources (Unread index rows_error.OutOfMemory) none is = absurd (omega (arith, is))
-faulty_files sources (Unjoined index (join_error.Differs head first)) none is = inr none
-faulty_files sources (Unjoined index join_error.OutOfMemory) none is = absurd (omega (arith, is))
 
 -- how a run ends, by the status that it ends with
 module _ (old mid new : Option (List ℕ)) (status : ℕ) where
@@ -122,3 +92,19 @@ module _ (old mid new : Option (List ℕ)) (status : ℕ) where
     ends_out_of_memory OutOfMemory comes (inl fails) is = absurd (omega (arith, is, fails))
     ends_out_of_memory OutOfMemory comes (inr told) is = subst (λ it. Appends it new memory_line) comes told.1
     ends_out_of_memory Failed comes ends is = absurd (omega (arith, is, ends))
+
+-- ---- of bytes alone
+
+-- what is read of bytes between no rows and no steps
+pub read-alone : (rows : List (Vec LentText)) (steps : List (Vec (String Global))) (bytes input : List ℕ) → rows ≡ [] → steps ≡ [] → bytes ≡ input → parse_between (texts_in_records rows) bytes (cell_texts steps) ≡ parse input
+read-alone rows steps bytes input no_rows no_steps is = rw (no_rows, no_steps, is) (parse_between-alone input)
+
+module _ (how : Form) (read : Result Script (ℕ × Fault)) (input : List ℕ) (old mid new : Option (List ℕ)) (status : ℕ) (outcome : Outcome) (is : read ≡ parse input) (comes : Comes how read old mid outcome) (ends : Ends outcome status mid new) where
+  pub run_done : status ≡ done → ShowsTable how input old new
+  run_done is_done = let shown = ends_done old mid new status how read outcome comes ends is_done in (shown.0, sym is ∙ shown.1, shown.2)
+
+  pub run_faulty : status ≡ faulty → ShowsNoTable how input old new
+  run_faulty is_faulty = elim (ends_faulty old mid new status how read outcome comes ends is_faulty) [
+    | inl fault ↦ inl (fault.0, sym is ∙ fault.1, fault.2)
+    | inr undrawn ↦ inr (undrawn.0, sym is ∙ undrawn.1, undrawn.2)
+  ]

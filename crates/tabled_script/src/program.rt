@@ -135,15 +135,16 @@ fn run_to_form<R: Read, W: Write>(alloc: Global, form: Form, reader: &mut R, wri
     ensures faulty { result ≡ faulty → IfSome (R.remaining reader.old) (λ input. ShowsNoTable form input (W.contents writer.old) (W.contents writer.new)) }
     ensures memory { result ≡ out_of_memory → Appends (W.contents writer.old) (W.contents writer.new) memory_line }
 {
-    let script = match read_whole(alloc, reader) {
-        Ok(script) => script,
-        Err(Unread::Failed(_)) => return FAILED,
-        Err(Unread::OutOfMemory) => return write_end(alloc, Outcome::OutOfMemory, writer),
-    };
-    let request = Request::new(alloc, form);
-    let rows = Vec::new(alloc);
-    let outcome = run_between(alloc, &request, rows, &script, writer, &mut io::sink());
-    write_end(alloc, outcome, writer)
+    match read_whole(alloc, reader) {
+        Ok(script) => {
+            let request = Request::new(alloc, form);
+            let rows = Vec::new(alloc);
+            let outcome = run_between(alloc, &request, rows, &script, writer, &mut io::sink());
+            write_end(alloc, outcome, writer)
+        }
+        Err(Unread::Failed(_)) => FAILED,
+        Err(Unread::OutOfMemory) => write_end(alloc, Outcome::OutOfMemory, writer),
+    }
 }
 
 /// Writes the line of a fault, or that memory ran out, where that is what comes of a script, and answers its status.
