@@ -1,7 +1,8 @@
 use Rattle.tabled_language.specs.Lent.{texts_in_records}
 use Rattle.tabled_language.specs.Parsing.{cell_texts}
 use Rattle.tabled_language.specs.Script.{parse_between}
-use Rattle.tabled_script.proofs.Common.{◌∙◌, ◌≡◌, List, ap, refl, sym, ℕ}
+use Rattle.tabled_language.specs.declared.fault.Fault.{Fault}
+use Rattle.tabled_script.proofs.Common.{◌∙◌, ◌≡◌, Err, List, ap, ap₂, refl, sym, ℕ}
 use Rattle.tabled_script.proofs.Outcomes.{of_end}
 use Rattle.tabled_script.specs.InMemory.{said_by}
 use Rattle.tabled_script.proofs.ending.run_between.Goals as goal
@@ -19,4 +20,5 @@ returns-in-Err-Faulty g c =
     let rows = texts_in_records c.args.rows.items in
     let script = c.args.script.now in
     let words : texts_in_records c.in-Ok.words.items ≡ cell_texts c.args.request.now.steps.items = c.in-Ok.ensures ∙ ap cell_texts c.deref-2.ensures.value in
-    (ap (λ (lists : List (List (List ℕ))). parse_between rows script lists) (sym words) ∙ (rw c.in-Err-Faulty.field-0-is at c.in-Err-Faulty.ensures.error), refl)
+    let faulty = rw c.in-Err-Faulty.field-0-is at c.in-Err-Faulty.ensures.error in
+    (ap (λ (lists : List (List (List ℕ))). parse_between rows script lists) (sym words) ∙ faulty ∙ sym (ap₂ (λ (line : ℕ) (fault : Fault). Err (line, fault)) c.in-Err-Faulty.line-is c.in-Err-Faulty.fault-is), refl)

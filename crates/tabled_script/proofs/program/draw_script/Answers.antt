@@ -1,7 +1,7 @@
 use Rattle.tabled_draw.specs.Picture.{drawn_with}
 use Rattle.tabled_draw.specs.declared.alignment.Alignment.{Alignment}
 use Rattle.tabled_draw.specs.declared.style.Style.{Style}
-use Rattle.tabled_script.proofs.Common.{Appends, IfSome_then, List, ap₂, ended, inl, subst}
+use Rattle.tabled_script.proofs.Common.{Appends, IfSome_then, List, ap₂, ended, inl, inr, subst}
 use Rattle.tabled_script.proofs.program.draw_script.Goals as goal
 
 pub returns-clause-done : goal.returns-clause-done

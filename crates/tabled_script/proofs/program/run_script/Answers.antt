@@ -1,4 +1,4 @@
-use Rattle.tabled_script.proofs.Common.{◌≡◌, Appends, FitsAtEnd, IfSome_then, IsTable, Script, ended, inl, subst}
+use Rattle.tabled_script.proofs.Common.{◌≡◌, Appends, FitsAtEnd, IfSome_then, IsTable, Script, ended, inl, inr, subst}
 use Rattle.tabled_script.proofs.Again.{gives_again}
 use Rattle.tabled_script.proofs.program.run_script.Goals as goal
 
