@@ -3,16 +3,26 @@
 use crate::entry::{Entry, FaultText, Way};
 
 /// What the program can do.
-pub const HELP: &str = "Makes a table from a script, changes and prints it.
+pub const HELP: &str = "Makes a table of rows and scripts, changes and writes it.
 
   ./tabled_script [OPTIONS] [STEP [then STEP]..] [< SCRIPT]
 
-  ./tabled_script < FILE        runs a script, and prints its table
-  ./tabled_script --draw rotate top then header 'Sales of 2026' < FILE
+  ./tabled_script < SCRIPT      runs a script, and prints its table
+  ./tabled_script --draw rotate top then header 'Sales of 2026' < SCRIPT
                                 does two more steps behind those of the script, and draws the table
-  ./tabled_script --csv sales.csv --style modern vmerge
-                                draws a file of CSV, with equal neighbours in columns merged
+  ./tabled_script --csv sales.csv --style modern merge vertical name Region
+                                draws a file of CSV, with equal neighbours in a column merged
+  ./tabled_script --csv may.csv --csv june.csv --to csv -o both.csv
+                                writes the rows of two files to a third one
 
+What is read
+  --csv FILE                    the rows of a file of CSV (-: of standard input) as records before those of the script.
+                                Those of a further file stand behind them, without its first row, which is the same
+  --separator C                 the character of ASCII between fields of CSV, or tab; without it a comma
+  --script FILE                 a script (-: of standard input). Without it a script is read from standard input, where
+                                there is no file of rows
+
+What is written
   --draw                        draws the table in place of printing it
   --style NAME                  draws it in a style:
                                 ascii modern rounded sharp extended psql markdown re_structured_text dots
@@ -22,22 +32,29 @@ pub const HELP: &str = "Makes a table from a script, changes and prints it.
                                 each column, the last one for those behind it
   --width N                     draws it in at most N columns: lines of texts are cut between words where that is needed;
                                 without it, and on a terminal, as wide as that at most
-  --csv FILE                    takes the rows of a file of CSV (-: of standard input) as records before those of the
-                                script
-  --separator C                 the character of ASCII between fields of CSV, or tab; without it a comma
-  --to csv                      prints the texts of the table as CSV
+  --to FORM                     writes it as a script (script), as without it, its texts as CSV (csv), or the table with its
+                                merged cells as HTML (html), as a page of it (html-page)
+  --header N                    writes HTML whose first N rows are its header
+  --caption TEXT                writes HTML with a caption
+  --to-separator C              writes CSV with this between fields; without it that of what is read
+  -o FILE, --output FILE        writes it to a file, which is made only then: a fault leaves it as it was
+
+What is told
   --check                       tells each step that names nothing in its table
   --explain [K]                 tells what fault K is, with an example and its cure, or what each fault is
   --prove                       proves and builds the program, and compares it with the one in bin/
   --help [WORD]                 prints this, or what is said of a verb or a selector
   --version                     prints which program this is
 
-A script comes in by standard input: lines of words, with single tabs between them. The table goes out by standard
-output, as a script that makes it: its shape, its rows and its merged cells.
-docs/SCRIPT.md says more of each word, and docs/GALLERY.md leads to a picture for each.
+The value of an option may stand behind an equals sign, as in --width=40. Behind the options each argument is a word of a
+step, as it is, with tabs, newlines and backslashes; the word then stands between two steps. -- ends the options, where the
+first word of a step begins with a minus. With steps a terminal as standard input is an empty script.
 
-Behind the options each argument is a word of a step, as it is, with tabs, newlines and backslashes. The word then
-stands between two steps. With steps a terminal as standard input is an empty script.
+A script is lines of words, with single tabs between them. The table goes out by standard output, as a script that makes
+it: its shape, its rows and its merged cells. What else there is to tell goes to standard error; without any argument it
+is a line in the table's place.
+docs/SCRIPT.md says more of each word, docs/TASKS.md has a command for each of many tasks, and docs/GALLERY.md leads to a
+picture for each word.
 
 WORDS
 
@@ -127,16 +144,16 @@ SELECTORS
 
 STATUSES
 
-  0                             the output
+  0                             the table
   1                             nothing: the arguments are others, or there is no program of these sources
-  2                             the line of the first fault; or nothing, where no picture is as narrow as is asked
+  2                             nothing: a line, a step or a file is faulty, or no picture is as narrow as is asked
                                 for
-  3                             out of memory
+  3                             nothing: memory ran out
   4                             reading or writing failed: nothing is said of what went out
 
 FAULTS
 
-\"line N: fault K\" tells the first faulty line.
+\"line N\" tells the first faulty line of a script, and \"step N\" the first step of the arguments.
 
   1                             a word stands where another one is asked for
   2                             a word is missing, or one is left over

@@ -3,7 +3,7 @@ use Rattle.std.proofs.Math.Seq.{drop-cons}
 use Rattle.std.specs.Option.{option_and_then, option_map}
 use Rattle.tabled_draw.specs.declared.alignment.Alignment.{Alignment}
 use Rattle.tabled_script.proofs.Common.{[], ◌++◌, ◌<◌, ◌∙◌, ◌∷◌, ◌≡◌, List, None, Option, Some, ap, drop, get_or, length, refl, suc, sym, take, take-append-drop, ℕ}
-use Rattle.tabled_script.specs.Arguments.{alignment_of, alignments_of}
+use Rattle.tabled_script.specs.Settings.{alignment_of, alignments_of}
 
 -- one alignment, and those of the letters behind it
 abbrev both : Option Alignment → Option (List Alignment) → Option (List Alignment)

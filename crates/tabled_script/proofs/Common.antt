@@ -13,7 +13,7 @@ pub use Rattle.tabled_language.specs.Parsing.{script_in}
 pub use Rattle.tabled_language.specs.RoundTrip.{IsTable, ReadsBack}
 pub use Rattle.tabled_language.specs.declared.lent.LentText.{LentText}
 pub use Rattle.tabled_script.specs.Again.{FitsAtEnd, GivesAgain}
-pub use Rattle.tabled_script.specs.Answer.{Faults, ShowsTable, changed, ended}
+pub use Rattle.tabled_script.specs.Answer.{changed, ended}
 pub use Rattle.tabled_select.proofs.Common.{◌%◌, YieldsList-from_vec, into_iter_len, into_iter_steps}
 pub use Rattle.tabled_settings.proofs.Common.{IsEven-map_grid}
 pub use Rattle.tabled_spans.proofs.Common.{◌^◌, IsUtf8, join_with_byte}

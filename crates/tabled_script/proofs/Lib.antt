@@ -1,14 +1,14 @@
 pub mod Again
 pub mod AlignmentLetters
-pub mod Alone
 pub mod Changes
 pub mod Common
-pub mod Finished
 pub mod Levels
-pub mod LinesBehind
 pub mod Narrowed
+pub mod Outcomes
 pub mod OutputLines
 pub mod Rooms
+pub mod Tables
+pub mod Taken
 pub mod Texts
 pub mod Told
 pub mod Works

@@ -1,5 +1,5 @@
 -- What the program writes for a script.
-use Rattle.std.specs.Prelude.{◌≡◌, ◌⊎◌, ℕ, List, [], ◌∷◌, ◌++◌, ◌-◌, codes, IsOk, MatchResult, None, Option, Result, Ok, Err}
+use Rattle.std.specs.Prelude.{◌≡◌, ℕ, List, [], ◌∷◌, ◌++◌, codes, None, Option}
 use Rattle.std.specs.Fmt.{decimal}
 use Rattle.std.specs.Io.KnownBytes.{Appends}
 use Rattle.std.specs.List.{fold}
@@ -7,13 +7,14 @@ use Rattle.tabled_csv.specs.Writing.{csv_of}
 use Rattle.tabled_draw.specs.Markdown.{markdown}
 use Rattle.tabled_draw.specs.Picture.{drawn, drawn_with}
 use Rattle.tabled_grid.specs.Fitting.{Fits}
+use Rattle.tabled_html.specs.Elements.{html}
 use Rattle.tabled_language.specs.Faults.{fault_number}
-use Rattle.tabled_language.specs.Script.{Script, parse, start}
+use Rattle.tabled_language.specs.Script.{Script, start}
 use Rattle.tabled_language.specs.declared.fault.Fault.{Fault}
 use Rattle.tabled_language.specs.Output.{print}
 use Rattle.tabled_language.specs.RoundTrip.{IsTable}
 use Rattle.tabled_script.specs.Narrow.{IsNarrowPicture, narrowed}
-use Rattle.tabled_script.specs.Status.{DoneOrFaulty, failed, out_of_memory}
+use Rattle.tabled_script.specs.Html.{ShowsGrid, look_of}
 use Rattle.tabled_script.specs.declared.form.Form.{Form}
 use Rattle.tabled_script.specs.declared.form.Form.TheVariants as form
 use Rattle.tabled_steps.specs.States.{State}
@@ -41,14 +42,16 @@ IsWrittenAs (form.Picture style alignments) s bytes = bytes ≡ drawn_with style
 IsWrittenAs (form.NarrowPicture width style alignments) s bytes = IsNarrowPicture width style alignments.items s.texts s.spans bytes
 IsWrittenAs (form.Markdown alignments) s bytes = bytes ≡ markdown alignments.items s.texts s.spans
 IsWrittenAs (form.Csv separator) s bytes = bytes ≡ csv_of separator s.texts.cells
+IsWrittenAs (form.Html page) s bytes = bytes ≡ html s.texts s.spans (look_of page)
 
--- no picture of a state is as narrow as is asked for, and nothing was written
-abbrev pub LeavesUndrawn : Form → State → Option (List ℕ) → Option (List ℕ) → Type 0
-LeavesUndrawn form.Script s old new = ⊥
-LeavesUndrawn (form.Picture style alignments) s old new = ⊥
-LeavesUndrawn (form.NarrowPicture width style alignments) s old new = (narrowed width style s.spans s.texts ≡ None) × (new ≡ old)
-LeavesUndrawn (form.Markdown alignments) s old new = ⊥
-LeavesUndrawn (form.Csv separator) s old new = ⊥
+-- no picture of a state is as narrow as is asked for
+abbrev pub IsUndrawn : Form → State → Type 0
+IsUndrawn form.Script s = ⊥
+IsUndrawn (form.Picture style alignments) s = ⊥
+IsUndrawn (form.NarrowPicture width style alignments) s = narrowed width style s.spans s.texts ≡ None
+IsUndrawn (form.Markdown alignments) s = ⊥
+IsUndrawn (form.Csv separator) s = ⊥
+IsUndrawn (form.Html page) s = ⊥
 
 -- `line N: fault K`
 abbrev pub fault_line : ℕ × Fault → List ℕ
@@ -69,36 +72,8 @@ known_as (form.Picture style alignments) s = Unit {0}
 known_as (form.NarrowPicture width style alignments) s = Unit {0}
 known_as (form.Markdown alignments) s = Unit {0}
 known_as (form.Csv separator) s = Unit {0}
+known_as (form.Html page) s = ShowsGrid page s.texts s.spans
 
 -- a state was written in a form, and what is known of it then
 abbrev pub ShowsState : Form → State → Option (List ℕ) → Option (List ℕ) → Type 0
 ShowsState how s old new = (bytes : List ℕ) × IsWrittenAs how s bytes × Appends old new bytes × known_as how s
-
--- the table that a script ends with was written in a form, and what is known of it then
-abbrev pub ShowsTable : Form → List ℕ → Option (List ℕ) → Option (List ℕ) → Type 0
-ShowsTable how input old new = (script : Script) × (parse input ≡ Ok script) × ShowsState how (ended script) old new
-
--- the line of a script's first fault was written, counted without n lines before
-abbrev pub Faults : ℕ → List ℕ → Option (List ℕ) → Option (List ℕ) → Type 0
-Faults n input old new = (fault : ℕ × Fault) × (parse input ≡ Err fault) × Appends old new (fault_line (fault.0 - n, fault.1))
-
--- no picture of the table that a script ends with is as narrow as is asked for, and nothing was written
-abbrev pub ShowsNoPicture : Form → List ℕ → Option (List ℕ) → Option (List ℕ) → Type 0
-ShowsNoPicture how input old new = (script : Script) × (parse input ≡ Ok script) × LeavesUndrawn how (ended script) old new
-
--- no table was written: nothing for want of width, or the line of a script's first fault
-abbrev pub ShowsNoTable : Form → ℕ → List ℕ → Option (List ℕ) → Option (List ℕ) → Type 0
-ShowsNoTable how n input old new = ShowsNoPicture how input old new ⊎ Faults n input old new
-
--- a status says what was written for a script: the table that it ends with, or none
-abbrev pub Answers : Form → ℕ → List ℕ → Option (List ℕ) → Option (List ℕ) → ℕ → Type 0
-Answers how n input old new status = DoneOrFaulty status (ShowsTable how input old new) (ShowsNoTable how n input old new)
-
--- a status says what was written for a state: its table, or nothing for want of width
-abbrev pub AnswersState : Form → State → Option (List ℕ) → Option (List ℕ) → ℕ → Type 0
-AnswersState how s old new status = DoneOrFaulty status (ShowsState how s old new) (LeavesUndrawn how s old new)
-
--- what comes of an answer: writing failed; or its own status, and nothing more is written; or memory ran out, and this was written
-abbrev pub Finishes : {U E A : Type 0} → Result (Result U E × ℕ) A → ℕ → Option (List ℕ) → Option (List ℕ) → Type 0
-Finishes answered status old new =
-    (status ≡ failed) ⊎ MatchResult answered (λ a. IsOk a.0 × (status ≡ a.1) × (new ≡ old)) (λ _. (status ≡ out_of_memory) × Appends old new memory_line)

@@ -1,125 +1,177 @@
 -- What the arguments of the program ask for: options, some with a value behind them, and then the words of steps.
-use Rattle.std.specs.Prelude.{ℕ, Bool, true, ◌==◌, ◌&&◌, ◌||◌, nat_le, not, if◌then◌else◌, List, [], ◌∷◌, ◌++◌, codes, slice_index, Option, None, Some}
-use Rattle.std.specs.Option.{option_and_then, option_map}
+use Rattle.std.specs.Prelude.{ℕ, Bool, true, false, ◌==◌, ◌&&◌, ◌||◌, nat_lt, not, if◌then◌else◌, List, [], ◌∷◌, ◌++◌, codes, length, slice_index, Option, None, Some, Result, Ok, Err, String, map}
+use Rattle.std.specs.Global.{Global, Vec}
+use Rattle.std.specs.List.{after_first, before_first, position_or_len}
+use Rattle.std.specs.Option.{is_some}
 use Rattle.std.specs.Str.{bytes_eq}
-use Rattle.tabled_draw.specs.Styles.{style_named}
+use Rattle.std.specs.String.{string_bytes}
 use Rattle.tabled_draw.specs.declared.alignment.Alignment.{Alignment}
-use Rattle.tabled_draw.specs.declared.alignment.Alignment.TheVariants as alignment
-use Rattle.tabled_language.specs.Output.{escaped}
 use Rattle.tabled_language.specs.Word.{length_of}
-use Rattle.tabled_script.specs.declared.arguments.Drawn.{Drawn}
-use Rattle.tabled_script.specs.declared.arguments.Drawn.TheVariants as drawn
+use Rattle.tabled_script.specs.Settings.{alignments_of, drawn_named, forms, named_in, options, read_by, separator_of, takes_value}
 use Rattle.tabled_script.specs.declared.arguments.Next.{Next}
 use Rattle.tabled_script.specs.declared.arguments.Next.TheVariants as next
-use Rattle.tabled_script.specs.declared.arguments.Written.{Written}
-use Rattle.tabled_script.specs.declared.arguments.Written.TheVariants as written
+use Rattle.tabled_script.specs.declared.refusal.Misuse.{Misuse}
+use Rattle.tabled_script.specs.declared.refusal.Misuse.TheVariants as misuse
+use Rattle.tabled_script.specs.declared.setting.Drawn.{Drawn}
+use Rattle.tabled_script.specs.declared.setting.Kind.{Kind}
 use Rattle.tabled_script.specs.declared.setting.Setting.{Setting}
 use Rattle.tabled_script.specs.declared.setting.Setting.TheVariants as setting
+use Rattle.tabled_script.specs.declared.setting.Written.{Written}
 
 -- what was asked for so far, and what the next argument is
 pub record Asked : Type 0 where
   pub next : Next
-  pub written : Written
-  pub drawn : Drawn
-  pub alignments : List Alignment
+  pub written : Option Written
+  pub draws : Bool
+  pub drawn : Option Drawn
+  pub alignments : Option (List Alignment)
   pub width : Option ℕ
-  pub file : Option (List ℕ)
-  pub separator : ℕ
-  pub steps : List ℕ
-  pub tells_faults : Bool
+  pub columns : Option ℕ
+  pub sources : List (Kind × List ℕ)
+  pub separator : Option ℕ
+  pub to_separator : Option ℕ
+  pub header : Option ℕ
+  pub caption : Option (List ℕ)
+  pub script : Option (List ℕ)
+  pub output : Option (List ℕ)
+  pub reads_input : Bool
+  -- the steps that ended, and the words of the next one
+  pub steps : List (List (List ℕ))
+  pub step : List (List ℕ)
   pub checks_steps : Bool
 
--- the table is written as this
-abbrev pub write_as : Written → Asked → Asked
-write_as how asked = record asked { written = how }
+-- why an argument asks for nothing, and the part of it that does
+abbrev pub Blamed : Type 0
+Blamed = Misuse × List ℕ
+
+-- a setting has its value
+abbrev pub is_set : Setting → Asked → Bool
+is_set setting.Form asked = is_some asked.written
+is_set setting.Picture asked = asked.draws
+is_set setting.Style asked = is_some asked.drawn
+is_set setting.Alignments asked = is_some asked.alignments
+is_set setting.Width asked = is_some asked.width
+is_set setting.Columns asked = is_some asked.columns
+is_set (setting.Rows kind) asked = false
+is_set setting.Separator asked = is_some asked.separator
+is_set setting.ToSeparator asked = is_some asked.to_separator
+is_set setting.Header asked = is_some asked.header
+is_set setting.Caption asked = is_some asked.caption
+is_set setting.Script asked = is_some asked.script
+is_set setting.Output asked = is_some asked.output
+is_set setting.Checks asked = asked.checks_steps
+
+-- the file of this name is standard input
+abbrev pub is_input : List ℕ → Bool
+is_input name = bytes_eq name (codes "-")
+
+-- the setting's value names a file that is read
+abbrev pub names_input : Setting → Bool
+names_input (setting.Rows kind) = true
+names_input setting.Script = true
+names_input other = false
+
+-- the name of a file, if it is one
+abbrev pub file_named : List ℕ → Option (List ℕ)
+file_named name = if length name == 0 then None else Some name
+
+-- what is asked for with a setting at what its value means, which may be nothing
+abbrev pub set_to : Setting → List ℕ → Asked → Asked
+set_to setting.Form name asked = record asked { written = named_in forms name }
+set_to setting.Style name asked = record asked { drawn = drawn_named name }
+set_to setting.Alignments letters asked = record asked { alignments = alignments_of letters }
+set_to setting.Width number asked = record asked { width = length_of number }
+set_to setting.Columns number asked = record asked { columns = length_of number }
+set_to (setting.Rows kind) name asked = record asked { sources = asked.sources ++ (kind, name) ∷ []; reads_input = asked.reads_input || is_input name }
+set_to setting.Separator name asked = record asked { separator = separator_of name }
+set_to setting.ToSeparator name asked = record asked { to_separator = separator_of name }
+set_to setting.Header number asked = record asked { header = length_of number }
+set_to setting.Caption text asked = record asked { caption = Some text }
+set_to setting.Script name asked = record asked { script = file_named name; reads_input = asked.reads_input || is_input name }
+set_to setting.Output name asked = record asked { output = file_named name }
+set_to setting.Picture value asked = asked
+set_to setting.Checks value asked = asked
+
+-- a setting has a value: a file of rows a name, and another one what the value means
+abbrev pub has_taken : Setting → List ℕ → Asked → Bool
+has_taken (setting.Rows kind) name asked = not (length name == 0)
+has_taken setting value asked = is_set setting asked
 
 -- the next argument is this
 abbrev pub expect : Next → Asked → Asked
 expect what asked = record asked { next = what }
 
--- the options, and what each asks for: something by itself, or the value behind it
-abbrev pub options : List (List ℕ × (Asked → Asked))
-options =
-    (codes "--draw", write_as written.Picture)
-    ∷ (codes "--check", λ asked. record asked { checks_steps = true })
-    ∷ (codes "--tell", λ asked. record asked { tells_faults = true })
-    ∷ (codes "--style", λ asked. expect (next.Value setting.Style) (write_as written.Picture asked))
-    ∷ (codes "--align", λ asked. expect (next.Value setting.Alignments) (write_as written.Picture asked))
-    ∷ (codes "--width", expect (next.Value setting.Width))
-    ∷ (codes "--csv", expect (next.Value setting.File))
-    ∷ (codes "--separator", expect (next.Value setting.Separator))
-    ∷ (codes "--to", expect (next.Value setting.Form))
-    ∷ []
+-- what is asked for once a setting is set to a value, if it can have that
+abbrev pub with_first_value : Setting → List ℕ → Asked → Result Asked Blamed
+with_first_value setting value asked =
+    if has_taken setting value (set_to setting value asked) then Ok (expect next.Option (set_to setting value asked))
+    else Err (misuse.WrongValue setting, value)
 
--- what a list has for a name
-abbrev pub named_in : {A : Type 0} → List (List ℕ × A) → List ℕ → Option A
-named_in [] name = None
-named_in (named ∷ others) name = if bytes_eq name named.0 then Some named.1 else named_in others name
+-- the value names standard input as a file that is read, and that is read already
+abbrev pub reads_input_again : Setting → List ℕ → Asked → Bool
+reads_input_again setting value asked = asked.reads_input && (names_input setting && is_input value)
 
--- what a picture is drawn in by a name: Markdown with its texts escaped, or the style of that name
-abbrev pub drawn_named : List ℕ → Option Drawn
-drawn_named name = if bytes_eq name (codes "markdown") then Some drawn.Markdown else option_map drawn.Style (style_named name)
+-- what is asked for once a setting is set to a value: once at most, and standard input is read once
+abbrev pub with_value : Setting → List ℕ → Asked → Result Asked Blamed
+with_value setting value asked =
+    if is_set setting asked then Err (misuse.Repeated setting, value)
+    else (if reads_input_again setting value asked then Err (misuse.InputRepeated, value)
+    else with_first_value setting value asked)
 
--- l, c or r: to the left, in the middle or to the right
-abbrev pub alignment_of : ℕ → Option Alignment
-alignment_of letter =
-    if letter == 108 then Some alignment.Left
-    else (if letter == 99 then Some alignment.Center
-    else (if letter == 114 then Some alignment.Right else None))
+-- what is asked for once an option stands there by itself: what is behind it is its value, unless it takes none
+abbrev pub with_option : Option Setting → List ℕ → Asked → Result Asked Blamed
+with_option None option asked = Err (misuse.NoOption, option)
+with_option (Some setting.Picture) option asked = Ok (record asked { draws = true })
+with_option (Some setting.Checks) option asked = Ok (record asked { checks_steps = true })
+with_option (Some setting) option asked = Ok (expect (next.Value setting) asked)
 
--- the alignments of letters, where each has one
-abbrev pub alignments_of : List ℕ → Option (List Alignment)
-alignments_of [] = Some []
-alignments_of (letter ∷ letters) = option_and_then (λ first. option_map (λ others. first ∷ others) (alignments_of letters)) (alignment_of letter)
+-- what is asked for once an option and its value stand there as one
+abbrev pub with_option_and_value : Option Setting → List ℕ → List ℕ → Asked → Result Asked Blamed
+with_option_and_value None option value asked = Err (misuse.NoOption, option)
+with_option_and_value (Some setting) option value asked = if takes_value setting then with_value setting value asked else Err (misuse.NeedlessValue setting, value)
 
--- a byte may part the fields of CSV: one of ASCII, but no quote and none that ends lines
-abbrev pub may_part : ℕ → Bool
-may_part byte = nat_le byte 127 && not ((byte == 34) || ((byte == 10) || (byte == 13)))
+-- a byte is the equals sign
+abbrev pub is_equals : ℕ → Bool
+is_equals byte = byte == 61
 
--- the only one of some bytes, where it may part fields
-abbrev pub sole_separator : List ℕ → Option ℕ
-sole_separator [] = None
-sole_separator (byte ∷ []) = if may_part byte then Some byte else None
-sole_separator (byte ∷ next ∷ bytes) = None
+-- what is asked for once there is an argument that begins with a minus: `--` ends the options, and `=` stands between an option and its value
+abbrev pub with_dashed : List ℕ → Asked → Result Asked Blamed
+with_dashed argument asked =
+    if bytes_eq argument (codes "--") then Ok (expect next.Word asked)
+    else (if nat_lt (position_or_len is_equals argument) (length argument)
+    then with_option_and_value (named_in options (before_first is_equals argument)) (before_first is_equals argument) (after_first is_equals argument) asked
+    else with_option (named_in options argument) argument asked)
 
--- the separator of a name: `tab`, or itself
-abbrev pub separator_of : List ℕ → Option ℕ
-separator_of name = if bytes_eq name (codes "tab") then Some 9 else sole_separator name
+-- files by their names
+abbrev pub named_files : List (Kind × String Global) → List (Kind × List ℕ)
+named_files files = map (λ file. (file.0, string_bytes file.1)) files
 
--- what the value of a setting asks for, where it can be set to this
-abbrev pub set_to : Setting → List ℕ → Option (Asked → Asked)
-set_to setting.Style name = option_map (λ how asked. record asked { drawn = how }) (drawn_named name)
-set_to setting.Alignments letters = option_map (λ list asked. record asked { alignments = list }) (alignments_of letters)
-set_to setting.Width number = option_map (λ columns asked. record asked { width = Some columns }) (length_of number)
-set_to setting.File name = Some (λ asked. record asked { file = Some name })
-set_to setting.Separator name = option_map (λ byte asked. record asked { separator = byte }) (separator_of name)
-set_to setting.Form name = if bytes_eq name (codes "csv") then Some (write_as written.Csv) else None
+-- the words of steps
+abbrev pub words_of : List (Vec (String Global)) → List (List (List ℕ))
+words_of steps = map (λ words. map string_bytes words.items) steps
 
--- what stands between a word and those before it in its step: a tab
-abbrev pub before_word : Next → List ℕ
-before_word next.Word = 9 ∷ []
-before_word other = []
+-- the words of a step, if it has any
+abbrev pub step_of : List (List ℕ) → List (List (List ℕ))
+step_of [] = []
+step_of (word ∷ words) = (word ∷ words) ∷ []
 
--- what stands behind a step that ends: a newline, if it has words
-abbrev pub behind_step : Next → List ℕ
-behind_step next.Word = 10 ∷ []
-behind_step other = []
+-- what is asked for once a step ends
+abbrev pub step_ended : Asked → Asked
+step_ended asked = record asked { steps = asked.steps ++ step_of asked.step; step = [] }
 
--- the steps with one more word: `then` ends a step, and any other is its next word
-abbrev pub with_word : List ℕ → Asked → Asked
+-- what is asked for with one more word: `then` ends a step, and any other is its next word, the first no file's name
+abbrev pub with_word : List ℕ → Asked → Result Asked Blamed
 with_word word asked =
-    if bytes_eq word (codes "then") then record asked { next = next.Verb; steps = asked.steps ++ behind_step asked.next }
-    else record asked { next = next.Word; steps = asked.steps ++ (before_word asked.next ++ escaped word) }
+    if bytes_eq word (codes "then") then Ok (expect next.Word (step_ended asked))
+    else (if (length asked.step == 0) && is_some (read_by word) then Err (misuse.FileAsStep, word)
+    else Ok (record asked { next = next.Word; step = asked.step ++ word ∷ [] }))
 
--- what is asked for once an argument is taken as what it is, where it asks for something
-abbrev pub taken_as : Next → List ℕ → Asked → Option Asked
-taken_as next.Option argument asked =
-    if slice_index argument 0 == 45 then option_map (λ change. change asked) (named_in options argument)
-    else Some (with_word argument asked)
-taken_as (next.Value setting) value asked = option_map (λ change. expect next.Option (change asked)) (set_to setting value)
-taken_as next.Verb word asked = Some (with_word word asked)
-taken_as next.Word word asked = Some (with_word word asked)
+-- what is asked for once an argument is taken as what it is, or why it asks for nothing
+abbrev pub taken_as : Next → List ℕ → Asked → Result Asked Blamed
+taken_as next.Option argument asked = if slice_index argument 0 == 45 then with_dashed argument asked else with_word argument asked
+taken_as (next.Value setting) value asked = with_value setting value asked
+taken_as next.Word word asked = with_word word asked
 
--- what is asked for once an argument is taken, where it asks for something
-abbrev pub taken : List ℕ → Asked → Option Asked
+-- what is asked for once an argument is taken, or why it asks for nothing
+abbrev pub taken : List ℕ → Asked → Result Asked Blamed
 taken argument asked = taken_as asked.next argument asked

@@ -1,12 +1,14 @@
 pub mod Again
 pub mod Answer
 pub mod Arguments
-pub mod Asked
 pub mod Cuts
+pub mod Html
 pub mod InMemory
+pub mod Inputs
 pub mod Limits
 pub mod Narrow
 pub mod Outcome
 pub mod Refusals
 pub mod Requests
+pub mod Settings
 pub mod Status

@@ -1,55 +1,187 @@
--- The request that arguments ask for.
-use Rattle.std.specs.Prelude.{◌≡◌, Bool, true, false, [], Option, None, Some}
+-- What arguments ask for, as a whole.
+use Rattle.std.specs.Prelude.{◌≡◌, ℕ, ◌&&◌, ◌||◌, Bool, true, false, List, [], ◌∷◌, codes, if◌then◌else◌, map, not, Option, None, Some}
+use Rattle.std.specs.List.{find}
+use Rattle.std.specs.Option.{is_some, option_and_then, option_map, unwrap_or}
 use Rattle.std.specs.String.{string_bytes}
 use Rattle.tabled_draw.specs.Styles.{ascii}
-use Rattle.tabled_script.specs.Arguments.{Asked}
-use Rattle.tabled_script.specs.declared.arguments.Drawn.TheVariants as drawn
+use Rattle.tabled_draw.specs.declared.alignment.Alignment.{Alignment}
+use Rattle.tabled_script.specs.Arguments.{Asked, is_set}
 use Rattle.tabled_script.specs.declared.arguments.Next.{Next}
 use Rattle.tabled_script.specs.declared.arguments.Next.TheVariants as next
-use Rattle.tabled_script.specs.declared.arguments.Written.TheVariants as written
 use Rattle.tabled_script.specs.declared.form.Form.{Form}
 use Rattle.tabled_script.specs.declared.form.Form.TheVariants as form
-use Rattle.tabled_script.specs.declared.request.CsvFile.{CsvFile}
-use Rattle.tabled_script.specs.declared.request.Request.{Request}
+use Rattle.tabled_script.specs.declared.refusal.Refusal.{Refusal}
+use Rattle.tabled_script.specs.declared.refusal.Refusal.TheVariants.{Contradictory, Failed, Misused, NoValue, NotText, OutOfMemory, Terminal}
+use Rattle.tabled_script.specs.declared.request.Format.{Format}
+use Rattle.tabled_script.specs.declared.request.Format.TheVariants as format
+use Rattle.tabled_script.specs.declared.request.Source.{Source}
+use Rattle.tabled_script.specs.declared.setting.Drawn.{Drawn}
+use Rattle.tabled_script.specs.declared.setting.Drawn.TheVariants as drawn
+use Rattle.tabled_script.specs.declared.setting.Kind.{Kind}
+use Rattle.tabled_script.specs.declared.setting.Kind.TheVariants as kind
+use Rattle.tabled_script.specs.declared.setting.Setting.{Setting}
+use Rattle.tabled_script.specs.declared.setting.Setting.TheVariants as setting
+use Rattle.tabled_script.specs.declared.setting.Written.{Written}
+use Rattle.tabled_script.specs.declared.setting.Written.TheVariants as written
 
--- no argument: the script, and its table as a script
+-- no argument: the script of standard input, and its table as a script
 abbrev pub nothing_asked : Asked
 nothing_asked = record {
   next = next.Option;
-  written = written.Script;
-  drawn = drawn.Style ascii;
-  alignments = [];
+  written = None;
+  draws = false;
+  drawn = None;
+  alignments = None;
   width = None;
-  file = None;
-  separator = 44;
+  columns = None;
+  sources = [];
+  separator = None;
+  to_separator = None;
+  header = None;
+  caption = None;
+  script = None;
+  output = None;
+  reads_input = false;
   steps = [];
-  tells_faults = false;
+  step = [];
   checks_steps = false;
 }
 
--- the last option lacks its value
-abbrev pub lacks_value : Next → Bool
-lacks_value (next.Value setting) = true
-lacks_value other = false
+-- the settings that say what a table is written as, in the order in which they are named
+abbrev pub settings_of_forms : List Setting
+settings_of_forms = setting.Form ∷ setting.Header ∷ setting.Caption ∷ setting.Style ∷ setting.Picture ∷ setting.Alignments ∷ setting.Width ∷ setting.ToSeparator ∷ []
 
--- a table is written in the form that is asked for
-abbrev pub AsksForm : Asked → Form → Type 0
-AsksForm asked form.Script = asked.written ≡ written.Script
-AsksForm asked (form.Picture style alignments) = (asked.written ≡ written.Picture) × (asked.drawn ≡ drawn.Style style) × (asked.width ≡ None) × (asked.alignments ≡ alignments.items)
-AsksForm asked (form.NarrowPicture width style alignments) = (asked.written ≡ written.Picture) × (asked.drawn ≡ drawn.Style style) × (asked.width ≡ Some width) × (asked.alignments ≡ alignments.items)
-AsksForm asked (form.Markdown alignments) = (asked.written ≡ written.Picture) × (asked.drawn ≡ drawn.Markdown) × (asked.alignments ≡ alignments.items)
-AsksForm asked (form.Csv separator) = (asked.written ≡ written.Csv) × (asked.separator ≡ separator)
+-- the first of them that is set
+abbrev pub deciding : Asked → Option Setting
+deciding asked = find (λ s. is_set s asked) settings_of_forms
 
--- the file that is asked for, if any, and nothing of its bytes
-abbrev pub AsksFile : Asked → Option CsvFile → Type 0
-AsksFile asked None = asked.file ≡ None
-AsksFile asked (Some file) = (asked.file ≡ Some (string_bytes file.name)) × (asked.separator ≡ file.separator) × (file.bytes.items ≡ [])
+-- what a table is written as where a setting decides it
+abbrev pub written_by : Option Setting → Option Written → Written
+written_by None how = written.Script
+written_by (Some setting.Form) how = unwrap_or how written.Script
+written_by (Some setting.ToSeparator) how = written.Csv
+written_by (Some setting.Header) how = written.Html
+written_by (Some setting.Caption) how = written.Html
+written_by (Some other) how = written.Picture
 
--- a request is what is asked for, and no value is lacking
-pub record IsAsked (asked : Asked) (request : Request) : Type 0 where
-  pub whole : lacks_value asked.next ≡ false
-  pub form : AsksForm asked request.form
-  pub file : AsksFile asked request.file
-  pub steps : request.steps.items ≡ asked.steps
-  pub tells_faults : request.tells_faults ≡ asked.tells_faults
-  pub checks_steps : request.checks_steps ≡ asked.checks_steps
+-- what the table is written as
+abbrev pub written_of : Asked → Written
+written_of asked = written_by (deciding asked) asked.written
+
+-- the setting says how HTML is written
+abbrev pub says_html : Setting → Bool
+says_html setting.Header = true
+says_html setting.Caption = true
+says_html setting.Alignments = true
+says_html _ = false
+
+-- what is written so may be asked for with a setting
+abbrev pub goes_with : Written → Setting → Bool
+goes_with _ setting.Form = true
+goes_with written.Script _ = false
+goes_with written.Picture setting.ToSeparator = false
+goes_with written.Picture setting.Header = false
+goes_with written.Picture setting.Caption = false
+goes_with written.Picture _ = true
+goes_with written.Csv setting.ToSeparator = true
+goes_with written.Csv _ = false
+goes_with written.Html setting = says_html setting
+goes_with written.HtmlPage setting = says_html setting
+
+-- two settings that contradict each other
+abbrev pub contradiction : Asked → Option (Setting × Setting)
+contradiction asked =
+    option_and_then
+    (λ first. option_map (λ other. (first, other)) (find (λ s. is_set s asked && not (goes_with (written_of asked) s)) settings_of_forms))
+    (deciding asked)
+
+-- the setting whose value is lacking
+abbrev pub awaited : Next → Option Setting
+awaited (next.Value setting) = Some setting
+awaited other = None
+
+-- what is asked for lacks a value, or contradicts itself, or there is no memory for it
+abbrev pub IsUnmade : Asked → Refusal → Type 0
+IsUnmade asked (NoValue setting) = awaited asked.next ≡ Some setting
+IsUnmade asked (Contradictory first other) = contradiction asked ≡ Some (first, other)
+IsUnmade asked OutOfMemory = Unit {0}
+IsUnmade asked (Misused misuse text) = ⊥
+IsUnmade asked NotText = ⊥
+IsUnmade asked Terminal = ⊥
+IsUnmade asked (Failed name failure) = ⊥
+
+-- what a picture is drawn in: the style ascii, unless another one is asked for
+abbrev pub drawn_of : Asked → Drawn
+drawn_of asked = unwrap_or asked.drawn (drawn.Style ascii)
+
+-- how many columns a picture has at most: those that are asked for, or those of the terminal that it is written to
+abbrev pub width_of : Asked → Option ℕ
+width_of asked = if is_some asked.width || is_some asked.output then asked.width else asked.columns
+
+-- what parts the fields of the files that are read
+abbrev pub separator_of : Asked → ℕ
+separator_of asked = unwrap_or asked.separator 44
+
+-- what parts the fields of CSV that is written
+abbrev pub to_separator_of : Asked → ℕ
+to_separator_of asked = unwrap_or asked.to_separator (separator_of asked)
+
+-- it is HTML, and whether that is a page of its own
+abbrev pub IsHtml : Written → Bool → Type 0
+IsHtml written.Html is_whole = is_whole ≡ false
+IsHtml written.HtmlPage is_whole = is_whole ≡ true
+IsHtml _ is_whole = ⊥
+
+-- how a table is to be written: as what, and drawn in what, how wide, how aligned, parted by what, and with how many rows of header under which caption
+pub record Writing : Type 0 where
+  pub how : Written
+  pub look : Drawn
+  pub width : Option ℕ
+  pub alignments : List Alignment
+  pub separator : ℕ
+  pub header : ℕ
+  pub caption : Option (List ℕ)
+
+-- the form has what is said of it
+abbrev pub IsForm : Writing → Form → Type 0
+IsForm writing form.Script = writing.how ≡ written.Script
+IsForm writing (form.Picture style alignments) = (writing.how ≡ written.Picture) × (writing.look ≡ drawn.Style style) × (writing.width ≡ None) × (writing.alignments ≡ alignments.items)
+IsForm writing (form.NarrowPicture width style alignments) =
+    (writing.how ≡ written.Picture) × (writing.look ≡ drawn.Style style) × (writing.width ≡ Some width) × (writing.alignments ≡ alignments.items)
+IsForm writing (form.Markdown alignments) = (writing.how ≡ written.Picture) × (writing.look ≡ drawn.Markdown) × (writing.alignments ≡ alignments.items)
+IsForm writing (form.Csv byte) = (writing.how ≡ written.Csv) × (writing.separator ≡ byte)
+IsForm writing (form.Html page) =
+    IsHtml writing.how page.is_whole × (writing.header ≡ page.header) × (writing.caption ≡ option_map string_bytes page.caption) × (writing.alignments ≡ page.alignments.items)
+
+-- how the table that is asked for is to be written
+abbrev pub writing_of : Asked → Writing
+writing_of asked = record {
+  how = written_of asked;
+  look = drawn_of asked;
+  width = width_of asked;
+  alignments = unwrap_or asked.alignments [];
+  separator = to_separator_of asked;
+  header = unwrap_or asked.header 0;
+  caption = asked.caption;
+}
+
+-- how the rows of a file are read
+abbrev pub format_of : ℕ → Kind → Format
+format_of separator kind.Csv = format.Csv separator
+
+-- a source as it is asked for: its format, its name, and nothing of its bytes
+abbrev pub named_source : Source → Format × (List ℕ × List ℕ)
+named_source source = (source.format, (string_bytes source.name, source.bytes.items))
+
+-- the file of the script: the one that is asked for, or standard input where there is no file of rows
+abbrev pub script_of : Option (List ℕ) → Bool → Option (List ℕ)
+script_of None true = Some (codes "-")
+script_of script is_alone = script
+
+-- files of rows, of which no byte is read
+abbrev pub unread_files : ℕ → List (Kind × List ℕ) → List (Format × (List ℕ × List ℕ))
+unread_files separator files = map (λ file. (format_of separator file.0, (file.1, []))) files
+
+-- the files of rows that are asked for, and nothing of their bytes
+abbrev pub files_of : Asked → List (Format × (List ℕ × List ℕ))
+files_of asked = unread_files (separator_of asked) asked.sources

@@ -21,14 +21,6 @@ out_of_memory = 3
 abbrev pub failed : ℕ
 failed = 4
 
--- one of the statuses other than that of a table that was written
-abbrev pub IsOtherThanDone : ℕ → Type 0
-IsOtherThanDone status = (status ≡ faulty) ⊎ ((status ≡ out_of_memory) ⊎ (status ≡ failed))
-
 -- one of the program's statuses
 abbrev pub IsStatus : ℕ → Type 0
-IsStatus status = (status ≡ done) ⊎ IsOtherThanDone status
-
--- a table was written, and P holds of it, or none was, and Q says what else there is
-abbrev pub DoneOrFaulty : ℕ → Type 0 → Type 0 → Type 0
-DoneOrFaulty status P Q = ((status ≡ done) × P) ⊎ ((status ≡ faulty) × Q)
+IsStatus status = (status ≡ done) ⊎ ((status ≡ faulty) ⊎ ((status ≡ out_of_memory) ⊎ (status ≡ failed)))

@@ -1,50 +1,33 @@
 //! The arguments of the program: options, and then steps.
 
 ghost use Rattle.std.specs.Option.{option_map};
-ghost use Rattle.std.specs.Prelude.{◌≡◌, ◌++◌, ◌⊎◌, IfErr, IfOk, IsTrue, MatchResult, OnOk};
-ghost use Rattle.tabled_language.specs.Output.{escaped, escaped_byte};
-ghost use Rattle.tabled_script.specs.Arguments.{drawn_named, expect, named_in, options, set_to, taken, with_word};
-ghost use Rattle.tabled_script.specs.Refusals.{Refuses, refusal_of};
-ghost use Rattle.tabled_script.specs.Requests.{IsAsked, lacks_value, nothing_asked};
-ghost use Rattle.tabled_script.specs.declared.arguments.Next.TheVariants as next;
-ghost use Rattle.tabled_script.specs.declared.refusal.Refusal.TheVariants as refusal;
+ghost use Rattle.std.specs.Prelude.{◌≡◌, ◌++◌, IfOk, OnOk, map};
+ghost use Rattle.std.specs.String.{string_bytes};
+ghost use Rattle.tabled_script.specs.Arguments.{file_named, has_taken, is_input, is_set, names_input, reads_input_again, set_to, step_ended, step_of, taken, with_dashed, with_first_value, with_option, with_option_and_value, with_value, with_word, words_of};
+ghost use Rattle.tabled_script.specs.Refusals.{IsRefused, Takes};
+ghost use Rattle.tabled_script.specs.Requests.{nothing_asked};
+ghost use Rattle.tabled_script.specs.Settings.{named_in, options};
 
-use crate::form::Form;
-use crate::refusal::Refusal;
-use crate::request::{CsvFile, Request};
-use crate::setting::{Setting, alignments_of, separator_of};
+use crate::refusal::{Misuse, Refusal};
+use crate::setting::{
+    Drawn, Kind, Setting, Written, alignments_of, drawn_named, read_by, separator_of, written_named,
+};
 use std::alloc::{AllocError, Global};
 use std::marker::Model;
+use std::mem;
 use tabled_csv::Separator;
-use tabled_draw::{Alignment, Style};
+use tabled_draw::Alignment;
 use tabled_language::length_of;
 
 /// What an argument is, by those before it.
 #[derive(Clone, Copy, PartialEq, Eq)]
-enum Next {
-    /// An option, or the verb of the first step.
+pub(crate) enum Next {
+    /// An option, or the first word of the first step.
     Option,
     /// The value of the option before it.
     Value(Setting),
-    /// The verb of a step.
-    Verb,
-    /// A further word of a step, or `then`, which ends it.
+    /// A word of a step, or `then`, which ends it.
     Word,
-}
-
-/// What a table is written as.
-#[derive(Clone, Copy, PartialEq, Eq)]
-enum Written {
-    Script,
-    Picture,
-    Csv,
-}
-
-/// What a picture is drawn in.
-#[derive(Clone, Copy)]
-enum Drawn {
-    Style(Style),
-    Markdown,
 }
 
 /// The arguments that were taken so far. A contract sees them as what they ask for.
@@ -52,259 +35,317 @@ enum Drawn {
 /// Of this project.
 #[derive(Drop)]
 pub struct Arguments {
-    next: Next,
-    written: Written,
-    drawn: Drawn,
-    alignments: Vec<Alignment>,
-    width: Option<usize>,
-    file: Option<String>,
-    separator: Separator,
-    steps: Vec<u8>,
-    tells_faults: bool,
-    checks_steps: bool,
+    pub(crate) next: Next,
+    pub(crate) written: Option<Written>,
+    pub(crate) draws: bool,
+    pub(crate) drawn: Option<Drawn>,
+    pub(crate) alignments: Option<Vec<Alignment>>,
+    pub(crate) width: Option<usize>,
+    pub(crate) columns: Option<usize>,
+    pub(crate) sources: Vec<(Kind, String)>,
+    pub(crate) separator: Option<Separator>,
+    pub(crate) to_separator: Option<Separator>,
+    pub(crate) header: Option<usize>,
+    pub(crate) caption: Option<String>,
+    pub(crate) script: Option<String>,
+    pub(crate) output: Option<String>,
+    /// Whether standard input is one of the files that are read.
+    pub(crate) reads_input: bool,
+    /// The steps that ended.
+    pub(crate) steps: Vec<Vec<String>>,
+    /// The words of the step that has not ended.
+    pub(crate) step: Vec<String>,
+    pub(crate) checks_steps: bool,
 }
 
 impl Model for Arguments {
     ghost use Rattle.std.specs.Option.{option_map};
+    ghost use Rattle.std.specs.Prelude.{map};
     ghost use Rattle.std.specs.String.{string_bytes};
-    ghost use Rattle.tabled_script.specs.Arguments.{Asked};
+    ghost use Rattle.tabled_script.specs.Arguments.{Asked, named_files, words_of};
 
     ghost Value = { Asked };
 
     ghost view = { λ a. record {
       next = a.next;
       written = a.written;
+      draws = a.draws;
       drawn = a.drawn;
-      alignments = a.alignments.items;
+      alignments = option_map (λ list. list.items) a.alignments;
       width = a.width;
-      file = option_map string_bytes a.file;
+      columns = a.columns;
+      sources = named_files a.sources.items;
       separator = a.separator;
-      steps = a.steps.items;
-      tells_faults = a.tells_faults;
+      to_separator = a.to_separator;
+      header = a.header;
+      caption = option_map string_bytes a.caption;
+      script = option_map string_bytes a.script;
+      output = option_map string_bytes a.output;
+      reads_input = a.reads_input;
+      steps = words_of a.steps.items;
+      step = map string_bytes a.step.items;
       checks_steps = a.checks_steps;
     } };
 }
 
 impl Arguments {
-    /// No argument, which asks for the script and its table as a script.
+    /// No argument, which asks for the script of standard input, and its table as a script.
     pub fn new(alloc: Global) -> Self
         ensures { result ≡ nothing_asked }
     {
         Arguments {
             next: Next::Option,
-            written: Written::Script,
-            drawn: Drawn::Style(Style::ascii()),
-            alignments: Vec::new(alloc),
+            written: None,
+            draws: false,
+            drawn: None,
+            alignments: None,
             width: None,
-            file: None,
-            separator: Separator::comma(),
+            columns: None,
+            sources: Vec::new(alloc),
+            separator: None,
+            to_separator: None,
+            header: None,
+            caption: None,
+            script: None,
+            output: None,
+            reads_input: false,
             steps: Vec::new(alloc),
-            tells_faults: false,
+            step: Vec::new(alloc),
             checks_steps: false,
         }
     }
 
-    /// Takes an argument behind those before it. It may ask for nothing: an option that there isn't, or a value that an
-    /// option can't have.
+    /// Takes an argument behind those before it. It is refused where it, or the part of it that the refusal names, asks
+    /// for nothing.
     pub fn take(self, alloc: Global, argument: &str) -> Result<Self, Refusal>
-        ensures taken { IfOk result (λ after. taken argument.now self ≡ Some after) }
-        ensures refused { IfErr result (λ refused. (refused ≡ refusal.OutOfMemory) ⊎ ((taken argument.now self ≡ None) × Refuses argument.now self.next refused)) }
-    {
-        let next = self.next;
-        match self.taken(alloc, argument)? {
-            Some(after) => Ok(after),
-            None => Err(refusal_of(next, String::from_str(alloc, argument)?)),
-        }
-    }
-
-    /// What is asked for once an argument is taken, if it asks for something.
-    fn taken(self, alloc: Global, argument: &str) -> Result<Option<Self>, AllocError>
-        ensures { IfOk result (λ after. after ≡ taken argument.now self) }
+        ensures { Takes (taken argument.now self) result }
     {
         match self.next {
-            Next::Value(setting) => self.set(alloc, setting, argument),
-            Next::Option if argument.starts_with('-') => Ok(self.with_option(argument)),
-            Next::Option | Next::Verb | Next::Word => Ok(Some(self.with_word(argument)?)),
+            Next::Option if argument.starts_with('-') => self.with_dashed(alloc, argument),
+            Next::Option | Next::Word => self.with_word(alloc, argument),
+            Next::Value(setting) => self.with_value(alloc, setting, argument),
         }
     }
 
-    /// Sets what an option sets to its value, if it can have that.
-    fn set(
+    /// Takes what begins with a minus: an option, maybe with its value, or `--`, which ends the options.
+    fn with_dashed(mut self, alloc: Global, argument: &str) -> Result<Self, Refusal>
+        ensures { Takes (with_dashed argument.now self) result }
+    {
+        if argument == "--" {
+            self.next = Next::Word;
+            return Ok(self);
+        }
+        match argument.split_once('=') {
+            Some((option, value)) => self.with_option_and_value(alloc, option, value),
+            None => self.with_option(alloc, argument),
+        }
+    }
+
+    /// Takes an option by itself.
+    #[tactic(auto, using(crate::proofs::Taken::refused_for))]
+    fn with_option(mut self, alloc: Global, option: &str) -> Result<Self, Refusal>
+        ensures { Takes (with_option (named_in options option.now) option.now self) result }
+    {
+        match Setting::named(option) {
+            None => Err(misused(alloc, Misuse::NoOption, option)),
+            Some(Setting::Picture) => {
+                self.draws = true;
+                Ok(self)
+            }
+            Some(Setting::Checks) => {
+                self.checks_steps = true;
+                Ok(self)
+            }
+            Some(setting) => {
+                self.next = Next::Value(setting);
+                Ok(self)
+            }
+        }
+    }
+
+    /// Takes an option with its value.
+    #[tactic(auto, using(crate::proofs::Taken::refused_for))]
+    fn with_option_and_value(
+        self,
+        alloc: Global,
+        option: &str,
+        value: &str,
+    ) -> Result<Self, Refusal>
+        ensures { Takes (with_option_and_value (named_in options option.now) option.now value.now self) result }
+    {
+        match Setting::named(option) {
+            None => Err(misused(alloc, Misuse::NoOption, option)),
+            Some(setting) if setting.takes_value() => self.with_value(alloc, setting, value),
+            Some(setting) => Err(misused(alloc, Misuse::NeedlessValue(setting), value)),
+        }
+    }
+
+    /// Sets a setting to a value, if it can have that and has none, and standard input is not read already.
+    #[tactic(auto, using(crate::proofs::Taken::refused_for))]
+    fn with_value(self, alloc: Global, setting: Setting, value: &str) -> Result<Self, Refusal>
+        ensures { Takes (with_value setting value.now self) result }
+    {
+        if self.is_set(setting) {
+            return Err(misused(alloc, Misuse::Repeated(setting), value));
+        }
+        if self.reads_input_again(setting, value) {
+            return Err(misused(alloc, Misuse::InputRepeated, value));
+        }
+        self.with_first_value(alloc, setting, value)
+    }
+
+    /// Sets a setting to a value, if it can have that.
+    #[tactic(auto, using(crate::proofs::Taken::refused_for, crate::proofs::Taken::wrong_value))]
+    fn with_first_value(
         mut self,
         alloc: Global,
         setting: Setting,
         value: &str,
-    ) -> Result<Option<Self>, AllocError>
-        ensures { IfOk result (λ after. after ≡ option_map (λ change. expect next.Option (change self)) (set_to setting value.now)) }
+    ) -> Result<Self, Refusal>
+        ensures { Takes (with_first_value setting value.now self) result }
     {
-        match setting {
-            Setting::Style => {
-                let Some(drawn) = drawn_named(value) else {
-                    return Ok(None);
-                };
-                self.drawn = drawn;
-            }
-            Setting::Alignments => {
-                let Some(alignments) = alignments_of(alloc, value.as_bytes())? else {
-                    return Ok(None);
-                };
-                self.alignments = alignments;
-            }
-            Setting::Width => {
-                let Some(width) = length_of(value) else {
-                    return Ok(None);
-                };
-                self.width = Some(width);
-            }
-            Setting::File => self.file = Some(String::from_str(alloc, value)?),
-            Setting::Separator => {
-                let Some(separator) = separator_of(value) else {
-                    return Ok(None);
-                };
-                self.separator = separator;
-            }
-            Setting::Form => {
-                if value != "csv" {
-                    return Ok(None);
-                }
-                self.written = Written::Csv;
-            }
+        self.set(alloc, setting, value)?;
+        if self.has_taken(setting, value) {
+            self.next = Next::Option;
+            return Ok(self);
         }
-        self.next = Next::Option;
-        Ok(Some(self))
+        Err(misused(alloc, Misuse::WrongValue(setting), value))
     }
 
-    /// What an option asks for, if there is such an option.
-    fn with_option(mut self, option: &str) -> Option<Self>
-        ensures { result ≡ option_map (λ change. change self) (named_in options option.now) }
+    /// Says whether a value names standard input as a file that is read, and that is read already.
+    fn reads_input_again(&self, setting: Setting, value: &str) -> bool
+        ensures { result ≡ reads_input_again setting value.now self.now }
     {
-        match option {
-            "--draw" => self.written = Written::Picture,
-            "--check" => self.checks_steps = true,
-            "--tell" => self.tells_faults = true,
-            "--style" => {
-                self.written = Written::Picture;
-                self.next = Next::Value(Setting::Style);
+        self.reads_input && names_input(setting) && is_input(value)
+    }
+
+    /// Sets a setting to what a value means.
+    fn set(&mut self, alloc: Global, setting: Setting, value: &str) -> Result<(), AllocError>
+        ensures { OnOk result (self.new ≡ set_to setting value.now self.old) }
+    {
+        match setting {
+            Setting::Form => self.written = written_named(value),
+            Setting::Style => self.drawn = drawn_named(value),
+            Setting::Alignments => self.alignments = alignments_of(alloc, value.as_bytes())?,
+            Setting::Width => self.width = length_of(value),
+            Setting::Columns => self.columns = length_of(value),
+            Setting::Separator => self.separator = separator_of(value),
+            Setting::ToSeparator => self.to_separator = separator_of(value),
+            Setting::Header => self.header = length_of(value),
+            Setting::Caption => self.caption = Some(String::from_str(alloc, value)?),
+            Setting::Output => self.output = file_named(alloc, value)?,
+            Setting::Script => {
+                self.script = file_named(alloc, value)?;
+                self.reads_input = self.reads_input || is_input(value);
             }
-            "--align" => {
-                self.written = Written::Picture;
-                self.next = Next::Value(Setting::Alignments);
+            Setting::Rows(kind) => {
+                self.sources.push((kind, String::from_str(alloc, value)?))?;
+                self.reads_input = self.reads_input || is_input(value);
             }
-            "--width" => self.next = Next::Value(Setting::Width),
-            "--csv" => self.next = Next::Value(Setting::File),
-            "--separator" => self.next = Next::Value(Setting::Separator),
-            "--to" => self.next = Next::Value(Setting::Form),
-            _ => return None,
+            Setting::Picture | Setting::Checks => {}
         }
-        Some(self)
+        Ok(())
+    }
+
+    /// Says whether a value was one that a setting can have.
+    fn has_taken(&self, setting: Setting, value: &str) -> bool
+        ensures { result ≡ has_taken setting value.now self.now }
+    {
+        match setting {
+            Setting::Rows(_) => !value.is_empty(),
+            _ => self.is_set(setting),
+        }
+    }
+
+    /// Says whether a setting has its value.
+    pub(crate) fn is_set(&self, setting: Setting) -> bool
+        ensures { result ≡ is_set setting self.now }
+    {
+        match setting {
+            Setting::Form => self.written.is_some(),
+            Setting::Picture => self.draws,
+            Setting::Style => self.drawn.is_some(),
+            Setting::Alignments => self.alignments.is_some(),
+            Setting::Width => self.width.is_some(),
+            Setting::Columns => self.columns.is_some(),
+            Setting::Rows(_) => false,
+            Setting::Separator => self.separator.is_some(),
+            Setting::ToSeparator => self.to_separator.is_some(),
+            Setting::Header => self.header.is_some(),
+            Setting::Caption => self.caption.is_some(),
+            Setting::Script => self.script.is_some(),
+            Setting::Output => self.output.is_some(),
+            Setting::Checks => self.checks_steps,
+        }
     }
 
     /// Adds a word to the steps, or ends one.
-    fn with_word(mut self, word: &str) -> Result<Self, AllocError>
-        ensures { IfOk result (λ after. after ≡ with_word word.now self) }
+    #[tactic(auto, using(crate::proofs::Taken::refused_for))]
+    fn with_word(mut self, alloc: Global, word: &str) -> Result<Self, Refusal>
+        ensures { Takes (with_word word.now self) result }
     {
         if word == "then" {
-            if self.next == Next::Word {
-                self.steps.push(b'\n')?;
+            self.end_step(alloc)?;
+        } else {
+            if self.step.is_empty() && read_by(word).is_some() {
+                return Err(misused(alloc, Misuse::FileAsStep, word));
             }
-            self.next = Next::Verb;
-            return Ok(self);
+            self.step.push(String::from_str(alloc, word)?)?;
         }
-        if self.next == Next::Word {
-            self.steps.push(b'\t')?;
-        }
-        push_escaped(&mut self.steps, word.as_bytes())?;
         self.next = Next::Word;
         Ok(self)
     }
 
-    /// What was asked for. The bytes of a file are not read yet. It is refused where the last option lacks its value.
-    pub fn into_request(self, alloc: Global) -> Result<Request, Refusal>
-        ensures { MatchResult result (IsAsked self) (λ refused. (refused ≡ refusal.NoValue) × IsTrue (lacks_value self.next)) }
+    /// Ends the step that has not ended, if it has words.
+    fn end_step(&mut self, alloc: Global) -> Result<(), AllocError>
+        ensures { OnOk result (self.new ≡ step_ended self.old) }
     {
-        let Arguments {
-            next,
-            written,
-            drawn,
-            alignments,
-            width,
-            file,
-            separator,
-            steps,
-            tells_faults,
-            checks_steps,
-        } = self;
-        if let Next::Value(_) = next {
-            return Err(Refusal::NoValue);
-        }
-        Ok(Request {
-            form: match written {
-                Written::Script => Form::Script,
-                Written::Picture => match (drawn, width) {
-                    (Drawn::Style(style), Some(width)) => {
-                        Form::NarrowPicture(width, style, alignments)
-                    }
-                    (Drawn::Style(style), None) => Form::Picture(style, alignments),
-                    (Drawn::Markdown, _) => Form::Markdown(alignments),
-                },
-                Written::Csv => Form::Csv(separator),
-            },
-            file: match file {
-                Some(name) => Some(CsvFile {
-                    name,
-                    separator,
-                    bytes: Vec::new(alloc),
-                }),
-                None => None,
-            },
-            steps,
-            tells_faults,
-            checks_steps,
-        })
+        let step = mem::replace(&mut self.step, Vec::new(alloc));
+        push_step(&mut self.steps, step)
     }
 }
 
-/// The refusal of an argument, by what it was to be.
-fn refusal_of(next: Next, argument: String) -> Refusal
-    ensures { result ≡ refusal_of next argument }
+/// Adds a step, if it has words.
+#[tactic(auto, using(crate::proofs::Taken::no_step, crate::proofs::Taken::one_step))]
+pub(crate) fn push_step(steps: &mut Vec<Vec<String>>, step: Vec<String>) -> Result<(), AllocError>
+    ensures { OnOk result (words_of steps.new.items ≡ words_of steps.old.items ++ step_of (map string_bytes step.items)) }
 {
-    match next {
-        Next::Value(setting) => Refusal::WrongValue(setting, argument),
-        Next::Option | Next::Verb | Next::Word => Refusal::NoOption(argument),
-    }
-}
-
-/// What a picture is drawn in by a name.
-fn drawn_named(name: &str) -> Option<Drawn>
-    ensures { result ≡ drawn_named name.now }
-{
-    // As Markdown a table has to be escaped, and not only drawn.
-    if name == "markdown" {
-        return Some(Drawn::Markdown);
-    }
-    let style = Style::named(name)?;
-    Some(Drawn::Style(style))
-}
-
-/// Adds the word that stands for the bytes of a text.
-fn push_escaped(line: &mut Vec<u8>, text: &[u8]) -> Result<(), AllocError>
-    ensures { OnOk result (line.new.items ≡ line.old.items ++ escaped text.now) }
-{
-    for byte in text {
-        push_escaped_byte(line, *byte)?;
+    if !step.is_empty() {
+        steps.push(step)?;
     }
     Ok(())
 }
 
-/// Adds a byte as it stands in a word.
-fn push_escaped_byte(line: &mut Vec<u8>, byte: u8) -> Result<(), AllocError>
-    ensures { OnOk result (line.new.items ≡ line.old.items ++ escaped_byte byte) }
+/// The refusal of an argument, or of a part of it.
+fn misused(alloc: Global, misuse: Misuse, argument: &str) -> Refusal
+    ensures { IsRefused (misuse, argument.now) result }
 {
-    match byte {
-        b'\t' => line.extend_from_slice(b"\\t")?,
-        b'\n' => line.extend_from_slice(b"\\n")?,
-        b'\\' => line.extend_from_slice(b"\\\\")?,
-        _ => line.push(byte)?,
+    match String::from_str(alloc, argument) {
+        Ok(text) => Refusal::Misused(misuse, text),
+        Err(_) => Refusal::OutOfMemory,
     }
-    Ok(())
+}
+
+/// Says whether the value of a setting names a file that is read.
+fn names_input(setting: Setting) -> bool
+    ensures { result ≡ names_input setting }
+{
+    matches!(setting, Setting::Rows(_) | Setting::Script)
+}
+
+/// Says whether the file of a name is standard input.
+fn is_input(name: &str) -> bool
+    ensures { result ≡ is_input name.now }
+{
+    name == "-"
+}
+
+/// The name of a file, if it is one.
+fn file_named(alloc: Global, name: &str) -> Result<Option<String>, AllocError>
+    ensures { IfOk result (λ file. option_map string_bytes file ≡ file_named name.now) }
+{
+    if name.is_empty() {
+        return Ok(None);
+    }
+    Ok(Some(String::from_str(alloc, name)?))
 }

@@ -1,20 +1,21 @@
-//! A table as CSV, and rows of CSV as lines of a script.
+//! A table as CSV, and the rows of CSV.
 
 ghost use Rattle.std.specs.Io.KnownBytes.{Appends};
-ghost use Rattle.std.specs.Prelude.{◌≡◌, [], IfOk, OnErr, OnOk, map};
+ghost use Rattle.std.specs.Prelude.{◌≡◌, IfOk, MatchResult, OnErr, map};
+ghost use Rattle.tabled_csv.specs.Grammar.{IsCsv};
 ghost use Rattle.tabled_csv.specs.Texts.{rows_of, text_of};
 ghost use Rattle.tabled_csv.specs.Writing.{csv_of};
 ghost use Rattle.tabled_grid.specs.Grid.{IsEven, grid_of, map_items};
-ghost use Rattle.tabled_held.specs.Pens.{Sends};
-ghost use Rattle.tabled_language.specs.Output.{row_line, row_lines};
+ghost use Rattle.tabled_language.specs.Lent.{texts_in_records, texts_in_row};
 ghost use Rattle.tabled_script.specs.InMemory.{texts_in};
+ghost use Rattle.tabled_script.specs.Inputs.{NoRowsIn};
 ghost use Rattle.tabled_script.specs.Outcome.{IfWritten};
+ghost use Rattle.tabled_script.specs.declared.request.Format.TheVariants.{Csv};
 
-use crate::words::write_escaped;
+use crate::inputs::{RowsError, SourceFault};
 use std::alloc::{AllocError, Global};
 use std::io::{self, Write};
-use tabled_csv::{Separator, WriteError, write_records};
-use tabled_held::{Held, Pen};
+use tabled_csv::{ReadError, Separator, Spare, WriteError, read_with, write_records};
 use tabled_language::LentText;
 
 /// Writes the texts of a table as CSV, and flushes the writer. All memory is asked for before the first byte: refused,
@@ -36,40 +37,49 @@ pub(crate) fn write_csv<W: Write>(
     }
 }
 
-/// The rows of CSV as lines of a script.
-pub(crate) fn row_lines(alloc: Global, rows: &[Vec<&str>]) -> Result<Vec<u8>, AllocError>
-    ensures { IfOk result (λ lines. lines.items ≡ row_lines (rows_of rows.now)) }
+/// The rows that bytes mean as CSV.
+pub(crate) fn csv_rows<'a>(
+    alloc: Global,
+    separator: Separator,
+    bytes: &'a [u8],
+    spare: &mut Spare<'a>,
+) -> Result<Vec<Vec<LentText<'a>>>, RowsError>
+    ensures { MatchResult result (λ rows. IsCsv separator bytes.now (texts_in_records rows.items)) (NoRowsIn (Csv separator) bytes.now) }
 {
-    let held = Held::new(alloc)?;
-    let mut lines = Vec::new(alloc);
-    match write_row_lines(&mut lines, held, rows) {
-        Ok(()) => Ok(lines),
-        Err(_) => Err(AllocError),
+    match read_with(alloc, separator, bytes, spare) {
+        Ok(rows) => match lent_rows(alloc, rows) {
+            Ok(rows) => Ok(rows),
+            Err(_) => Err(RowsError::OutOfMemory),
+        },
+        Err(ReadError::Faulty { line, fault }) => Err(RowsError::Faulty {
+            line,
+            fault: SourceFault::Csv(fault),
+        }),
+        Err(ReadError::OutOfMemory) => Err(RowsError::OutOfMemory),
     }
 }
 
-/// Writes the lines of rows.
-fn write_row_lines<W: Write>(writer: &mut W, held: Held, rows: &[Vec<&str>]) -> io::Result<()>
-    requires { held.bytes ≡ [] }
-    ensures { OnOk result (Appends (W.contents writer.old) (W.contents writer.new) (row_lines (rows_of rows.now))) }
+/// Rows of texts as records. Each row is let go before the next one becomes a record.
+fn lent_rows<'a>(
+    alloc: Global,
+    rows: Vec<Vec<&'a str>>,
+) -> Result<Vec<Vec<LentText<'a>>>, AllocError>
+    ensures { IfOk result (λ records. texts_in_records records.items ≡ rows_of rows.entry.items) }
 {
-    let mut pen = Pen::new(writer, held);
+    let mut records = Vec::with_capacity(alloc, rows.len())?;
     for row in rows {
-        write_row_line(&mut pen, row);
+        records.push(lent_row(alloc, &row)?)?;
     }
-    let (written, outcome) = pen.finish();
-    // No effect: the proof reads here what the writer got.
-    let _ = &*written;
-    outcome
+    Ok(records)
 }
 
-/// Writes the line of a row's texts.
-fn write_row_line<W: Write>(pen: &mut Pen<'_, W>, texts: &[&str])
-    ensures { Sends W.contents pen.old pen.new (row_line (map text_of texts.now)) }
+/// A row of texts as a record.
+fn lent_row<'a>(alloc: Global, row: &[&'a str]) -> Result<Vec<LentText<'a>>, AllocError>
+    ensures { IfOk result (λ lent. texts_in_row lent ≡ map text_of row.now) }
 {
-    pen.send(b"row");
-    for text in texts {
-        write_escaped(pen, text);
+    let mut lent = Vec::with_capacity(alloc, row.len())?;
+    for text in row {
+        lent.push(LentText::from(*text))?;
     }
-    pen.send_byte(b'\n');
+    Ok(lent)
 }

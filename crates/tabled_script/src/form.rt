@@ -1,16 +1,16 @@
 //! What the table that a script ends with is written as.
 
-ghost use Rattle.std.specs.Prelude.{◌≡◌, OnErr};
 ghost use Rattle.tabled_grid.specs.Grid.{IsEven, grid_of, map_items};
-ghost use Rattle.tabled_script.specs.Answer.{LeavesUndrawn, ShowsState};
 ghost use Rattle.tabled_script.specs.InMemory.{state_in};
-ghost use Rattle.tabled_script.specs.Outcome.{IfDrawn, IfUndrawn};
+ghost use Rattle.tabled_script.specs.Outcome.{ComesOfState};
 
 use crate::csv_form::write_csv;
-use crate::picture::{TooNarrow, write_markdown, write_narrow_picture, write_picture};
+use crate::html_form::{HtmlPage, write_html};
+use crate::outcome::Outcome;
+use crate::picture::{write_markdown, write_narrow_picture, write_picture};
 use crate::script_form::write_script;
-use std::alloc::{AllocError, Global};
-use std::io::{self, Write};
+use std::alloc::Global;
+use std::io::Write;
 use tabled_csv::Separator;
 use tabled_draw::{Alignment, Style};
 use tabled_grid::config::SpannedConfig;
@@ -33,6 +33,8 @@ pub enum Form {
     Markdown(Vec<Alignment>),
     /// The texts of its cells as CSV, those of hidden cells, too.
     Csv(Separator),
+    /// HTML, with its merged cells: a table, or a page of its own.
+    Html(HtmlPage),
 }
 
 impl Form {
@@ -44,24 +46,27 @@ impl Form {
         records: Vec<Vec<LentText>>,
         spans: &SpannedConfig,
         writer: &mut W,
-    ) -> Result<Result<io::Result<()>, TooNarrow>, AllocError>
+    ) -> Outcome
         requires { IsEven (grid_of (map_items records.items)) }
-        ensures written { IfDrawn result (ShowsState self.now (state_in records.entry.items spans.now) (W.contents writer.old) (W.contents writer.new)) }
-        ensures undrawn { IfUndrawn result (λ narrow. LeavesUndrawn self.now (state_in records.entry.items spans.now) (W.contents writer.old) (W.contents writer.new)) }
-        ensures refused { OnErr result (W.contents writer.new ≡ W.contents writer.old) }
+        ensures { ComesOfState self.now (state_in records.entry.items spans.now) (W.contents writer.old) (W.contents writer.new) result }
     {
         match self {
-            Form::Script => Ok(Ok(write_script(alloc, &records, spans, writer)?)),
-            Form::Picture(style, alignments) => Ok(Ok(write_picture(
+            Form::Script => Outcome::of_writing(write_script(alloc, &records, spans, writer)),
+            Form::Picture(style, alignments) => Outcome::of_writing(write_picture(
                 alloc, records, spans, *style, alignments, writer,
-            )?)),
-            Form::NarrowPicture(width, style, alignments) => {
-                write_narrow_picture(alloc, &records, spans, *style, alignments, *width, writer)
-            }
-            Form::Markdown(alignments) => Ok(Ok(write_markdown(
+            )),
+            Form::NarrowPicture(width, style, alignments) => Outcome::of_drawing(
+                write_narrow_picture(alloc, &records, spans, *style, alignments, *width, writer),
+            ),
+            Form::Markdown(alignments) => Outcome::of_writing(write_markdown(
                 alloc, records, spans, alignments, writer,
-            )?)),
-            Form::Csv(separator) => Ok(Ok(write_csv(alloc, &records, *separator, writer)?)),
+            )),
+            Form::Csv(separator) => {
+                Outcome::of_writing(write_csv(alloc, &records, *separator, writer))
+            }
+            Form::Html(page) => {
+                Outcome::of_writing(write_html(alloc, &records, spans, page, writer))
+            }
         }
     }
 }

@@ -1,8 +1,8 @@
 //! What is told in place of a table: what the program can do, its words, and its faults.
 
+use crate::outcome::{DONE, FAILED};
+use crate::program::write_whole;
 use crate::refusal::REFUSED;
-use crate::respond::{DONE, FAILED, write_whole};
-use crate::telling::tell_status;
 use std::alloc::{AllocError, Global};
 use std::io::Write;
 use tabled_help::{ENTRIES, FAULTS, HELP, WORDS, explained, nearest, said_of};
@@ -28,10 +28,7 @@ impl Telling {
         match self {
             Telling::Text(text) => match write_whole(writer, text.as_bytes()) {
                 Ok(()) => DONE,
-                Err(_) => {
-                    tell_status(FAILED, errors);
-                    FAILED
-                }
+                Err(_) => FAILED,
             },
             Telling::Nothing(why) => {
                 // Where it can't be told, the status says it.
@@ -47,7 +44,7 @@ impl Telling {
 ///
 /// Of this project.
 pub fn told_instead(alloc: Global, arguments: &[String]) -> Result<Option<Telling>, AllocError> {
-    let Some((option, words)) = arguments.split_first() else {
+    let Some((option, words)) = without_columns(arguments).split_first() else {
         return Ok(None);
     };
     let told = match option.as_str() {
@@ -63,6 +60,14 @@ pub fn told_instead(alloc: Global, arguments: &[String]) -> Result<Option<Tellin
         _ => return Ok(None),
     };
     Ok(Some(told))
+}
+
+/// The arguments without the columns of a terminal, which stand before all others.
+fn without_columns(arguments: &[String]) -> &[String] {
+    match arguments {
+        [option, _, others @ ..] if option.as_str() == "--columns" => others,
+        _ => arguments,
+    }
 }
 
 /// What is said of a word.

@@ -8,11 +8,11 @@ use tabled_language::Fault;
 pub(crate) fn complaint(
     alloc: Global,
     fault: Fault,
-    words: &[&str],
+    words: &[String],
     at: usize,
 ) -> Result<String, AllocError> {
-    let verb = words.first().copied().unwrap_or("");
-    let word = words.get(at).copied().unwrap_or("");
+    let verb = word_at(words, 0);
+    let word = word_at(words, at);
     let mut told = String::new(alloc);
     match fault {
         Fault::UnknownWord => push_unknown(alloc, &mut told, verb, word)?,
@@ -29,7 +29,7 @@ pub(crate) fn complaint(
         }
         Fault::WordCount => {
             told.push_str("a word is missing behind ")?;
-            push_quoted(&mut told, words.last().copied().unwrap_or(""))?;
+            push_quoted(&mut told, word_at(words, words.len().saturating_sub(1)))?;
             told.push_str(": ")?;
             push_help(&mut told, verb)?;
         }
@@ -58,6 +58,14 @@ pub(crate) fn complaint(
         )?,
     }
     Ok(told)
+}
+
+/// The word at an index, or none.
+fn word_at(words: &[String], index: usize) -> &str {
+    match words.get(index) {
+        Some(word) => word.as_str(),
+        None => "",
+    }
 }
 
 /// Adds what is told of a word that can't stand where it does.

@@ -1,22 +1,32 @@
-//! The programs: a script read, and the table that it makes written as a script, or drawn.
+//! The programs: a script read, and the table that it makes written as a script, drawn, or as a request asks.
 
-ghost use Rattle.std.specs.Prelude.{◌≡◌, ◌-◌, ◌⊎◌, ℕ, Ok, Err, IfSome, List, length};
+ghost use Rattle.std.specs.Prelude.{◌≡◌, ◌⊎◌, ℕ, Ok, Err, IfOk, IfSome, OnOk, List};
 ghost use Rattle.std.specs.Io.KnownBytes.{Appends};
+ghost use Rattle.std.specs.String.{string_bytes};
 ghost use Rattle.tabled_script.specs.Again.{FitsAtEnd, GivesAgain};
-ghost use Rattle.tabled_script.specs.Answer.{ShowsNoPicture, ShowsState, ended, fault_line, memory_line, output_of, picture_of};
-ghost use Rattle.tabled_script.specs.Asked.{FileFaults, StandBefore, whole_script};
+ghost use Rattle.tabled_script.specs.Answer.{ShowsState, ended, fault_line, memory_line, output_of, picture_of};
+ghost use Rattle.tabled_script.specs.Inputs.{HasTable};
+ghost use Rattle.tabled_script.specs.Outcome.{Ends, EndsBy, FindsNoTable, ShowsNoTable, ShowsTable};
 ghost use Rattle.tabled_script.specs.Status.{IsStatus, done, faulty, out_of_memory};
-ghost use Rattle.tabled_language.specs.Script.{Script as Meaning, parse};
+ghost use Rattle.tabled_language.specs.Parsing.{cell_texts};
+ghost use Rattle.tabled_language.specs.Script.{Script as Meaning, parse, parse_between};
 ghost use Rattle.tabled_language.specs.declared.fault.Fault.{Fault};
 
-use crate::file::{lines_of, refuse_file, tell_file_fault};
+use crate::ending::run_between;
 use crate::form::Form;
+use crate::inputs::rows_of_sources;
+use crate::outcome::{FAILED, FAULTY, OUT_OF_MEMORY, Outcome};
+use crate::reading::{Unread, read_whole};
 use crate::request::Request;
-use crate::respond::{finish, respond};
+use crate::telling::{Lines, tell_outcome, tell_sources_error, tell_status};
 use std::alloc::{AllocError, Global};
 use std::io::{self, Read, Write};
-use tabled_csv::ReadError;
+use tabled_csv::Room;
 use tabled_draw::Style;
+use tabled_language::Fault;
+
+/// The line that is written where memory ran out.
+const MEMORY_LINE: &[u8] = b"out of memory\n";
 
 /// Runs the script that a reader has, and answers a status.
 ///
@@ -38,15 +48,7 @@ pub fn run_script<R: Read, W: Write>(alloc: Global, reader: &mut R, writer: &mut
         (fault : ℕ × Fault) × (parse input ≡ Err fault) × Appends (W.contents writer.old) (W.contents writer.new) (fault_line fault)) }
     ensures memory { result ≡ out_of_memory → Appends (W.contents writer.old) (W.contents writer.new) memory_line }
 {
-    respond(
-        alloc,
-        &Request::new(alloc, Form::Script),
-        Vec::new(alloc),
-        0,
-        reader,
-        writer,
-        &mut io::sink(),
-    )
+    run_to_form(alloc, Form::Script, reader, writer)
 }
 
 /// Draws the table that a script makes: reads as `run_script` does, writes the table's picture in the
@@ -62,61 +64,126 @@ pub fn draw_script<R: Read, W: Write>(alloc: Global, reader: &mut R, writer: &mu
         (fault : ℕ × Fault) × (parse input ≡ Err fault) × Appends (W.contents writer.old) (W.contents writer.new) (fault_line fault)) }
     ensures memory { result ≡ out_of_memory → Appends (W.contents writer.old) (W.contents writer.new) memory_line }
 {
-    respond(
-        alloc,
-        &Request::new(alloc, Form::Picture(Style::ascii(), Vec::new(alloc))),
-        Vec::new(alloc),
-        0,
-        reader,
-        writer,
-        &mut io::sink(),
-    )
+    let form = Form::Picture(Style::ascii(), Vec::new(alloc));
+    run_to_form(alloc, form, reader, writer)
 }
 
-/// Answers a request: takes the rows of its file as records before those of the script that a reader has, does the
-/// script's steps and then those of the request, writes the table in the form that is asked for, and answers a status
-/// as `run_script` does. What is read means what a script means that begins with a `row` line for each row.
+/// Answers a request: reads the rows of its files, one behind another, as records before those of a script, does the
+/// script's steps and then those of the request, writes the table in the form that is asked for, and answers a status.
+/// Where files begin with the same row, it stands once.
 ///
 /// - 0: the table was written.
-/// - 2: `line N: fault K` was written, for the first faulty line: the script's own lines are counted, and behind them
-///   those of the request's steps. Or `csv line N: fault K`, for the file: 1 where a quote is not closed, 2 for
-///   something behind a closing one, 3 for what isn't UTF-8. Or nothing was written, since no picture is as narrow as is
-///   asked for.
-/// - 3, 4: as those of `run_script`.
+/// - 2: a file has no rows, or begins with another row than those before it; or a line of the script or a step of the
+///   request is faulty; or no picture is as narrow as is asked for. Nothing was written.
+/// - 3: memory ran out, and nothing was written.
+/// - 4: writing failed, and nothing is said of what was written.
 ///
-/// What is told beside the answer goes to `errors`, in a line each; where that can't be written, or memory runs out, the
-/// answer is the same. Where faults are told, that is `line N: fault K:`, or `step N: fault K:` for a step of the
-/// request, with the words of the line, or the file's name, line and fault. Where steps are checked, `names nothing in
-/// the table:` with the words of each step with a selector that names no cell of the table before it, or whose range
-/// lies outside. Where no picture is as narrow as is asked for, that is told.
+/// Nothing is written but the table. What else there is to tell, but why writing failed, goes to `errors`, in a line or two each; where that can't
+/// be written, or memory runs out, the answer is the same. A fault is told as that of `line N` of the script, of `step N`
+/// of the request, or of a line of a file, with its likely cure and the words of the line; first rows that differ with
+/// both; a picture that can't be as narrow with the columns that it takes. Where steps are checked, `names nothing in the
+/// table:` is told with the words of each step with a selector that names no cell of the table before it, or whose range
+/// lies outside.
 ///
 /// Of this project.
-pub fn answer<R: Read, W: Write, E: Write>(
+pub fn answer<W: Write, E: Write>(
     alloc: Global,
     request: &Request,
-    reader: &mut R,
+    script: &[u8],
     writer: &mut W,
     errors: &mut E,
 ) -> u8
     ensures known { IsStatus result }
-    ensures done { result ≡ done → IfSome (R.remaining reader.old) (λ input.
-        (rows : List (List (List ℕ))) × StandBefore request.now.file rows
-        × (script : Meaning) × (parse (whole_script rows input request.now.steps.items) ≡ Ok script)
-        × ShowsState request.now.form (ended script) (W.contents writer.old) (W.contents writer.new)) }
-    ensures faulty { result ≡ faulty → FileFaults request.now.file (W.contents writer.old) (W.contents writer.new) ⊎ IfSome (R.remaining reader.old) (λ input.
-        (rows : List (List (List ℕ))) × StandBefore request.now.file rows
-        × (ShowsNoPicture request.now.form (whole_script rows input request.now.steps.items) (W.contents writer.old) (W.contents writer.new) ⊎ ((fault : ℕ × Fault) × (parse (whole_script rows input request.now.steps.items) ≡ Err fault)
-        × Appends (W.contents writer.old) (W.contents writer.new) (fault_line (fault.0 - length rows, fault.1))))) }
-    ensures memory { result ≡ out_of_memory → Appends (W.contents writer.old) (W.contents writer.new) memory_line }
+    ensures done { result ≡ done →
+        (rows : List (List (List ℕ))) × HasTable request.now.sources.items rows
+        × (meaning : Meaning) × (parse_between rows script.now (cell_texts request.now.steps.items) ≡ Ok meaning)
+        × ShowsState request.now.form (ended meaning) (W.contents writer.old) (W.contents writer.new) }
+    ensures faulty { result ≡ faulty → (W.contents writer.new ≡ W.contents writer.old) × FindsNoTable request.now script.now }
+    ensures memory { result ≡ out_of_memory → W.contents writer.new ≡ W.contents writer.old }
 {
-    match lines_of(alloc, &request.file) {
-        Ok((lines, many)) => respond(alloc, request, lines, many, reader, writer, errors),
-        Err(ReadError::OutOfMemory) => finish(writer, Err(AllocError)),
-        Err(ReadError::Faulty { line, fault }) => {
-            if request.tells_faults {
-                tell_file_fault(alloc, &request.file, line, fault, errors);
-            }
-            refuse_file(alloc, line, fault, writer)
+    let mut room = match Room::new(alloc) {
+        Ok(room) => room,
+        Err(_) => {
+            tell_status(OUT_OF_MEMORY, errors);
+            return OUT_OF_MEMORY;
+        }
+    };
+    let sources = request.sources.as_slice();
+    match rows_of_sources(alloc, sources, &mut room) {
+        Ok(rows) => {
+            let lines = Lines {
+                rows: rows.len(),
+                script,
+                steps: &request.steps,
+            };
+            let outcome = run_between(alloc, request, rows, script, writer, errors);
+            tell_outcome(alloc, lines, outcome, errors);
+            outcome.status()
+        }
+        Err(error) => {
+            tell_sources_error(alloc, sources, &error, errors);
+            error.status()
         }
     }
+}
+
+/// Reads the script that a reader has, writes the table that it ends with in a form, or what ends it, and answers a
+/// status.
+fn run_to_form<R: Read, W: Write>(alloc: Global, form: Form, reader: &mut R, writer: &mut W) -> u8
+    ensures known { IsStatus result }
+    ensures done { result ≡ done → IfSome (R.remaining reader.old) (λ input. ShowsTable form input (W.contents writer.old) (W.contents writer.new)) }
+    ensures faulty { result ≡ faulty → IfSome (R.remaining reader.old) (λ input. ShowsNoTable form input (W.contents writer.old) (W.contents writer.new)) }
+    ensures memory { result ≡ out_of_memory → Appends (W.contents writer.old) (W.contents writer.new) memory_line }
+{
+    match read_whole(alloc, reader) {
+        Ok(script) => {
+            let request = Request::new(alloc, form);
+            let rows = Vec::new(alloc);
+            let outcome = run_between(alloc, &request, rows, &script, writer, &mut io::sink());
+            write_end(alloc, outcome, writer)
+        }
+        Err(Unread::Failed(_)) => FAILED,
+        Err(Unread::OutOfMemory) => write_end(alloc, Outcome::OutOfMemory, writer),
+    }
+}
+
+/// Writes the line of a fault, or that memory ran out, where that is what comes of a script, and answers its status.
+pub(crate) fn write_end<W: Write>(alloc: Global, outcome: Outcome, writer: &mut W) -> u8
+    ensures { Ends outcome result (W.contents writer.old) (W.contents writer.new) }
+{
+    match outcome {
+        Outcome::Faulty(line, fault) => match fault_line(alloc, (line, fault)) {
+            Ok(text) => write_status(writer, text.as_bytes(), FAULTY),
+            Err(_) => write_status(writer, MEMORY_LINE, OUT_OF_MEMORY),
+        },
+        Outcome::OutOfMemory => write_status(writer, MEMORY_LINE, OUT_OF_MEMORY),
+        Outcome::Written | Outcome::TooNarrow(_) | Outcome::Failed => outcome.status(),
+    }
+}
+
+/// Writes bytes, flushes the writer, and answers a status, or that writing failed.
+fn write_status<W: Write>(writer: &mut W, bytes: &[u8], status: u8) -> u8
+    ensures { EndsBy bytes.now status result (W.contents writer.old) (W.contents writer.new) }
+{
+    match write_whole(writer, bytes) {
+        Ok(()) => status,
+        Err(_) => FAILED,
+    }
+}
+
+/// The line that names a faulty line and its fault.
+fn fault_line(alloc: Global, fault: (usize, Fault)) -> Result<String, AllocError>
+    ensures { IfOk result (λ text. string_bytes text ≡ fault_line fault) }
+{
+    let line = fault.0;
+    let number = fault.1.number();
+    format!(in alloc; "line {line}: fault {number}\n")
+}
+
+/// Writes bytes, and flushes the writer.
+pub(crate) fn write_whole<W: Write>(writer: &mut W, bytes: &[u8]) -> io::Result<()>
+    ensures { OnOk result (Appends (W.contents writer.old) (W.contents writer.new) bytes.now) }
+{
+    writer.write_all(bytes)?;
+    writer.flush()
 }

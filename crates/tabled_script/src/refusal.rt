@@ -1,17 +1,18 @@
-//! Why a request isn't answered.
+//! Why a request isn't made of arguments, or isn't answered.
 
 ghost use Rattle.std.specs.List.{flat_map};
-ghost use Rattle.std.specs.Prelude.{◌≡◌, ◌++◌, ◌∷◌, IfOk, OnOk};
+ghost use Rattle.std.specs.Option.{option_map};
+ghost use Rattle.std.specs.Prelude.{◌≡◌, ◌++◌, ◌∷◌, IfOk, OnOk, map};
 ghost use Rattle.std.specs.String.{string_bytes};
-ghost use Rattle.tabled_script.specs.Refusals.{EndsRefused, GetsFirst, refusal_line, refusal_text, status_of, value_line};
-ghost use Rattle.tabled_script.specs.declared.setting.Setting.TheVariants as setting;
+ghost use Rattle.tabled_script.specs.Refusals.{GetsFirst, cure_of, failure_of, failure_text, file_text, meant_in, misuse_text, names_text, option_text, reading_options, refusal_line, refusal_text, status_of, value_text};
 
-use crate::respond::{FAILED, OUT_OF_MEMORY, finish};
-use crate::setting::Setting;
+use crate::outcome::{FAILED, OUT_OF_MEMORY};
+use crate::setting::{FORMS, OPTIONS, Setting, read_by};
 use std::alloc::{AllocError, AllocFailed, Global};
-use std::io::Write;
+use std::io::{ErrorKind, Write};
 use tabled_draw::Style;
 use tabled_held::write_all;
+use tabled_help::nearest;
 
 /// The answer to what can't be asked for.
 pub(crate) const REFUSED: u8 = 1;
@@ -21,55 +22,108 @@ pub(crate) const REFUSED: u8 = 1;
 /// Of this project.
 #[derive(Debug, Drop)]
 pub enum Refusal {
-    /// There is no such option.
-    NoOption(String),
-    /// An option can't have this value.
-    WrongValue(Setting, String),
+    /// An argument, or this part of it, asks for nothing.
+    Misused(Misuse, String),
     /// The last option lacks its value.
-    NoValue,
+    NoValue(Setting),
+    /// Two options contradict each other.
+    Contradictory(Setting, Setting),
     /// An argument isn't UTF-8.
     NotText,
-    /// A file can't be read.
-    Unread(String),
+    /// No script comes in: standard input is a terminal.
+    Terminal,
+    /// A file can't be read or written.
+    Failed(String, Failure),
     OutOfMemory,
 }
 
-impl Refusal {
-    /// Tells it and answers its status: 1 for arguments that ask for nothing, 3 for want of memory, 4 for a file. Want of
-    /// memory is written on `writer`, and all others in a line on `errors`; where that can't be written, or memory runs
-    /// out, the status is the same.
-    #[tactic(auto, using(crate::proofs::Told::gets_none))]
-    pub fn tell<W: Write, E: Write>(self, alloc: Global, writer: &mut W, errors: &mut E) -> u8
-        ensures ends { EndsRefused self result (W.contents writer.old) (W.contents writer.new) }
-        ensures told { GetsFirst (E.contents errors.old) (E.contents errors.new) (refusal_line self) }
+/// Why an argument asks for nothing.
+///
+/// Of this project.
+#[derive(Clone, Copy, Debug)]
+pub enum Misuse {
+    /// There is no such option.
+    NoOption,
+    /// The setting can't have this value.
+    WrongValue(Setting),
+    /// The option takes no value.
+    NeedlessValue(Setting),
+    /// The setting has a value already.
+    Repeated(Setting),
+    /// Standard input is read already.
+    InputRepeated,
+    /// A step begins with the name of a file.
+    FileAsStep,
+}
+
+/// Why a file can't be read or written.
+///
+/// Of this project.
+#[derive(Clone, Copy, Debug)]
+pub enum Failure {
+    /// There is no such file, or no folder for it.
+    Missing,
+    /// It may not be read or written.
+    Forbidden,
+    /// It is a folder.
+    Folder,
+    /// A disk is full.
+    Full,
+    Other,
+}
+
+impl Failure {
+    /// Why a file can't be read or written, by the kind of an error.
+    pub fn of(kind: ErrorKind) -> Self
+        ensures { result ≡ failure_of kind }
     {
-        if let Refusal::OutOfMemory = self {
-            return finish(writer, Err(AllocError));
+        match kind {
+            ErrorKind::NotFound => Failure::Missing,
+            ErrorKind::PermissionDenied => Failure::Forbidden,
+            ErrorKind::IsADirectory => Failure::Folder,
+            ErrorKind::StorageFull => Failure::Full,
+            _ => Failure::Other,
         }
-        self.tell_line(alloc, errors);
-        self.status()
     }
 
-    /// Tells its line, if there is memory for it.
+    fn text(self) -> &'static str
+        ensures { result.now ≡ failure_text self }
+    {
+        match self {
+            Failure::Missing => "No such file or directory",
+            Failure::Forbidden => "Permission denied",
+            Failure::Folder => "Is a directory",
+            Failure::Full => "No space left on device",
+            Failure::Other => "reading or writing failed",
+        }
+    }
+}
+
+impl Refusal {
+    /// Tells it in a line and answers its status: 1 for arguments that ask for nothing, 3 for want of memory, 4 for a file.
+    /// Where the line can't be written, or memory runs out, the status is the same.
     #[tactic(auto, using(crate::proofs::Told::gets_none, crate::proofs::Told::gets_first))]
-    fn tell_line<E: Write>(&self, alloc: Global, errors: &mut E)
-        ensures { GetsFirst (E.contents errors.old) (E.contents errors.new) (refusal_line self.now) }
+    pub fn tell<E: Write>(self, alloc: Global, errors: &mut E) -> u8
+        ensures status { result ≡ status_of self }
+        ensures told { GetsFirst (E.contents errors.old) (E.contents errors.new) (refusal_line self) }
     {
         if let Ok(line) = self.line(alloc) {
             // The status says it, too.
             let _ = write_all(errors, line.as_bytes());
         }
+        self.status()
     }
 
     fn status(&self) -> u8
         ensures { result ≡ status_of self.now }
     {
         match self {
-            Refusal::NoOption(_)
-            | Refusal::WrongValue(_, _)
-            | Refusal::NoValue
-            | Refusal::NotText => REFUSED,
-            Refusal::Unread(_) => FAILED,
+            Refusal::Misused(_, _)
+            | Refusal::NoValue(_)
+            | Refusal::Contradictory(_, _)
+            | Refusal::NotText
+            | Refusal::Terminal => REFUSED,
+            Refusal::Failed(_, _) => FAILED,
             Refusal::OutOfMemory => OUT_OF_MEMORY,
         }
     }
@@ -79,53 +133,154 @@ impl Refusal {
         ensures { IfOk result (λ line. string_bytes line ≡ refusal_line self.now) }
     {
         let text = self.text(alloc)?;
-        format!(in alloc; "tabled_script: {text}")
+        format!(in alloc; "tabled_script: {text}\n")
     }
 
     fn text(&self, alloc: Global) -> Result<String, AllocError>
         ensures { IfOk result (λ text. string_bytes text ≡ refusal_text self.now) }
     {
         match self {
-            Refusal::NoOption(option) => {
-                format!(in alloc; "there is no option {option}: --help lists them\n")
+            Refusal::Misused(misuse, text) => misuse_text(alloc, *misuse, text.as_str()),
+            Refusal::NoValue(setting) => {
+                let option = setting.name();
+                format!(in alloc; "{option} lacks its value")
             }
-            Refusal::WrongValue(setting, value) => value_line(alloc, *setting, value.as_str()),
-            Refusal::NoValue => format!(in alloc; "the last option lacks its value\n"),
-            Refusal::NotText => format!(in alloc; "an argument isn't UTF-8\n"),
-            Refusal::Unread(name) => format!(in alloc; "{name} can't be read\n"),
-            Refusal::OutOfMemory => Err(AllocError),
+            Refusal::Contradictory(first, other) => {
+                let (first, other) = (first.name(), other.name());
+                format!(in alloc; "{first} and {other} contradict each other")
+            }
+            Refusal::NotText => format!(in alloc; "an argument isn't UTF-8"),
+            Refusal::Terminal => format!(in alloc;
+                "a script comes in by standard input, which is a terminal here: write ./tabled_script [OPTIONS] [STEP [then STEP]..] < SCRIPT; --help tells the rest"
+            ),
+            Refusal::Failed(name, failure) => {
+                let why = failure.text();
+                format!(in alloc; "{name}: {why}")
+            }
+            Refusal::OutOfMemory => format!(in alloc; "memory ran out"),
         }
     }
 }
 
-/// The line that tells what is wrong with a value.
-fn value_line(alloc: Global, setting: Setting, value: &str) -> Result<String, AllocError>
-    ensures { IfOk result (λ line. string_bytes line ≡ value_line setting value.now) }
+/// What is wrong with an argument, or this part of it.
+fn misuse_text(alloc: Global, misuse: Misuse, argument: &str) -> Result<String, AllocError>
+    ensures { IfOk result (λ text. string_bytes text ≡ misuse_text misuse argument.now) }
+{
+    match misuse {
+        Misuse::NoOption => option_text(alloc, argument),
+        Misuse::WrongValue(setting) => value_text(alloc, setting, argument),
+        Misuse::NeedlessValue(setting) => {
+            let option = setting.name();
+            format!(in alloc; "{option} takes no value")
+        }
+        Misuse::Repeated(setting) => {
+            let option = setting.name();
+            format!(in alloc; "{option} stands here twice")
+        }
+        Misuse::InputRepeated => {
+            format!(in alloc; "standard input is read once: - stands here twice")
+        }
+        Misuse::FileAsStep => file_text(alloc, argument),
+    }
+}
+
+/// That a step begins with the name of a file, and how that is read.
+fn file_text(alloc: Global, name: &str) -> Result<String, AllocError>
+    ensures { IfOk result (λ text. string_bytes text ≡ file_text name.now) }
+{
+    let mut text = String::from_str(alloc, name)?;
+    text.push_str(" is a file: ")?;
+    text.push_str(reading_options(name))?;
+    text.push_str(" ")?;
+    text.push_str(name)?;
+    Ok(text)
+}
+
+/// The options that read a file, as its name ends.
+#[tactic(auto, unfolding(crate::specs::Refusals::reading_options))]
+fn reading_options(name: &str) -> &'static str
+    ensures { result.now ≡ reading_options name.now }
+{
+    match read_by(name) {
+        Some(options) => options,
+        None => "--csv",
+    }
+}
+
+/// That there is no such option, and which may be meant.
+fn option_text(alloc: Global, option: &str) -> Result<String, AllocError>
+    ensures { IfOk result (λ text. string_bytes text ≡ option_text option.now) }
+{
+    let mut text = String::from_str(alloc, "there is no option ")?;
+    text.push_str(option)?;
+    push_cure(&mut text, option, meant_in(option, &OPTIONS))?;
+    Ok(text)
+}
+
+/// Adds which option may be meant by one that isn't known here, or where they are listed.
+fn push_cure(text: &mut String, option: &str, meant: Option<&str>) -> Result<(), AllocError>
+    ensures { OnOk result (string_bytes text.new ≡ string_bytes text.old ++ cure_of option.now (option_map (λ it. it.now) meant.entry)) }
+{
+    let Some(meant) = meant else {
+        return text.push_str(": --help lists them");
+    };
+    if meant == option {
+        return text.push_str(" here: it stands first");
+    }
+    text.push_str("; maybe ")?;
+    text.push_str(meant)?;
+    text.push_str(" is meant")?;
+    Ok(())
+}
+
+/// The option that may be meant by a word.
+fn meant_in<'o>(word: &str, options: &[&'o str]) -> Option<&'o str>
+    ensures { option_map (λ option. option.now) result ≡ meant_in word.now (map (λ option. option.now) options.now) }
+{
+    nearest(word, options)
+}
+
+/// What is wrong with a value.
+fn value_text(alloc: Global, setting: Setting, value: &str) -> Result<String, AllocError>
+    ensures { IfOk result (λ text. string_bytes text ≡ value_text setting value.now) }
 {
     match setting {
-        Setting::Style => style_line(alloc, value),
+        Setting::Style => names_text(alloc, "style", value, &Style::NAMES),
+        Setting::Form => names_text(alloc, "form", value, &FORMS),
         Setting::Alignments => {
-            format!(in alloc; "columns are aligned by letters l, c and r, not by {value}\n")
+            format!(in alloc; "columns are aligned by letters l, c and r, not by {value}")
         }
-        Setting::Width => format!(in alloc; "{value} is no number of columns\n"),
-        Setting::File => format!(in alloc; "{value} is no name of a file\n"),
-        Setting::Separator => {
+        Setting::Width | Setting::Columns => {
+            format!(in alloc; "{value} is no number of columns")
+        }
+        Setting::Header => format!(in alloc; "{value} is no number of rows"),
+        Setting::Caption => {
+            let option = setting.name();
+            format!(in alloc; "{option} takes any value")
+        }
+        Setting::Separator | Setting::ToSeparator => {
             format!(in alloc;
-                "{value} is no separator: one character of ASCII, but no quote, or tab\n"
+                "{value} is no separator: one character of ASCII, but no quote, or tab"
             )
         }
-        Setting::Form => format!(in alloc; "a table is written --to csv, and not to {value}\n"),
+        Setting::Rows(_) | Setting::Script | Setting::Output => {
+            let option = setting.name();
+            format!(in alloc; "no name of a file stands behind {option}")
+        }
+        Setting::Picture | Setting::Checks => {
+            let option = setting.name();
+            format!(in alloc; "{option} takes no value")
+        }
     }
 }
 
-/// The line that tells that there is no such style, and which there are.
-fn style_line(alloc: Global, name: &str) -> Result<String, AllocError>
-    ensures { IfOk result (λ line. string_bytes line ≡ value_line setting.Style name.now) }
+/// That there is nothing of some kind with a name, and which there are.
+fn names_text(alloc: Global, kind: &str, name: &str, names: &[&str]) -> Result<String, AllocError>
+    ensures { IfOk result (λ text. string_bytes text ≡ names_text kind.now name.now (flat_map (λ known. 32 ∷ known.now) names.now)) }
 {
-    let mut line = format!(in alloc; "there is no style {name}:")?;
-    push_each(&mut line, &Style::NAMES)?;
-    line.push('\n')?;
-    Ok(line)
+    let mut text = format!(in alloc; "there is no {kind} {name}:")?;
+    push_each(&mut text, names)?;
+    Ok(text)
 }
 
 /// Adds names, each behind a blank.

@@ -4,48 +4,55 @@ use crate::form::Form;
 use std::alloc::Global;
 use tabled_csv::Separator;
 
-/// A file of CSV.
+/// How the rows of a file are read.
+///
+/// Of this project.
+#[derive(Drop, Clone, Copy)]
+pub enum Format {
+    /// CSV, with what parts its fields.
+    Csv(Separator),
+}
+
+/// A file of rows.
 ///
 /// Of this project.
 #[derive(Drop)]
-pub struct CsvFile {
+pub struct Source {
     /// What it is called where its fault is told.
     pub name: String,
-    pub separator: Separator,
+    pub format: Format,
     pub bytes: Vec<u8>,
 }
 
-/// What is asked for, beside the script that a reader has.
+/// What is asked for, beside a script.
 ///
 /// Of this project.
 #[derive(Drop)]
 pub struct Request {
     /// What the table that the script ends with is written as.
     pub form: Form,
-    /// A file whose rows are records before those of the script.
-    pub file: Option<CsvFile>,
-    /// Lines of steps behind those of the script. Each begins with a newline.
-    pub steps: Vec<u8>,
-    /// Whether the first faulty line is told, too, with its words.
-    pub tells_faults: bool,
+    /// Files whose rows are records before those of the script, one behind another.
+    pub sources: Vec<Source>,
+    /// Steps behind those of the script, each a list of its words.
+    pub steps: Vec<Vec<String>>,
     /// Whether each step that names nothing in its table is told.
     pub checks_steps: bool,
 }
 
 impl Request {
-    ghost use Rattle.std.specs.Prelude.{◌≡◌, [], None};
+    ghost use Rattle.std.specs.Prelude.{◌≡◌, [], false};
 
     /// The script and its table in a form, and no more.
     pub fn new(alloc: Global, form: Form) -> Self
         ensures form { result.form ≡ form }
-        ensures file { result.file ≡ None }
+        ensures sources { result.sources.items ≡ [] }
         ensures steps { result.steps.items ≡ [] }
+        ensures checks_steps { result.checks_steps ≡ false }
     {
         Request {
             form,
-            file: None,
+            sources: Vec::new(alloc),
             steps: Vec::new(alloc),
-            tells_faults: false,
             checks_steps: false,
         }
     }

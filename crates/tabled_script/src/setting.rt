@@ -1,30 +1,187 @@
-//! The settings of the program, each by an option and its value.
+//! The settings of the program, each by an option, and what their values mean.
 
 ghost use Rattle.std.specs.Option.{option_map};
-ghost use Rattle.std.specs.Prelude.{◌≡◌, ◌++◌, IfOk, OnOk};
-ghost use Rattle.tabled_script.specs.Arguments.{alignment_of, alignments_of, separator_of};
+ghost use Rattle.std.specs.Prelude.{◌≡◌, IfOk};
+ghost use Rattle.tabled_script.specs.Settings.{alignment_of, alignments_of, drawn_named, forms, name_of, named_in, options, read_by, separator_of, takes_value};
+ghost use Rattle.tabled_script.specs.declared.setting.Setting.TheVariants as setting;
 
 use std::alloc::{AllocError, Global};
 use tabled_csv::Separator;
-use tabled_draw::Alignment;
+use tabled_draw::{Alignment, Style};
 
-/// What an option sets to the value that stands behind it.
+/// What an option sets: most to the value that stands behind it.
 ///
 /// Of this project.
 #[derive(Clone, Copy, Debug, PartialEq, Eq)]
 pub enum Setting {
+    /// What a table is written as.
+    Form,
+    /// That a picture is drawn.
+    Picture,
     /// The style of a picture.
     Style,
     /// How the texts of a picture are aligned.
     Alignments,
     /// How many columns a picture has at most.
     Width,
-    /// The file of CSV.
-    File,
-    /// What parts the fields of CSV.
+    /// How many columns the terminal has: as many as a picture has at most that isn't asked for in a width.
+    Columns,
+    /// A file of rows.
+    Rows(Kind),
+    /// What parts the fields of the files that are read.
     Separator,
-    /// What a table is written as.
-    Form,
+    /// What parts the fields of CSV that is written.
+    ToSeparator,
+    /// How many rows are the header of a table of HTML.
+    Header,
+    /// The caption of a table of HTML.
+    Caption,
+    /// The file of the script.
+    Script,
+    /// The file that the table is written to.
+    Output,
+    /// That each step that names nothing in its table is told.
+    Checks,
+}
+
+/// What the rows of a file are written as.
+///
+/// Of this project.
+#[derive(Clone, Copy, Debug, PartialEq, Eq)]
+pub enum Kind {
+    Csv,
+}
+
+/// What a table is written as.
+#[derive(Clone, Copy, PartialEq, Eq)]
+pub(crate) enum Written {
+    Script,
+    Picture,
+    Csv,
+    Html,
+    HtmlPage,
+}
+
+/// What a picture is drawn in.
+#[derive(Clone, Copy)]
+pub(crate) enum Drawn {
+    Style(Style),
+    Markdown,
+}
+
+/// The names of the options, those of what is told in place of a table, too.
+pub(crate) const OPTIONS: [&'static str; 18] = [
+    "--to",
+    "--draw",
+    "--style",
+    "--align",
+    "--width",
+    "--columns",
+    "--csv",
+    "--separator",
+    "--to-separator",
+    "--header",
+    "--caption",
+    "--script",
+    "--output",
+    "-o",
+    "--check",
+    "--help",
+    "--explain",
+    "--version",
+];
+
+/// The names of what a table is written as.
+pub(crate) const FORMS: [&'static str; 4] = ["script", "csv", "html", "html-page"];
+
+impl Setting {
+    /// The setting of an option.
+    pub(crate) fn named(option: &str) -> Option<Setting>
+        ensures { result ≡ named_in options option.now }
+    {
+        match option {
+            "--to" => Some(Setting::Form),
+            "--draw" => Some(Setting::Picture),
+            "--style" => Some(Setting::Style),
+            "--align" => Some(Setting::Alignments),
+            "--width" => Some(Setting::Width),
+            "--columns" => Some(Setting::Columns),
+            "--csv" => Some(Setting::Rows(Kind::Csv)),
+            "--separator" => Some(Setting::Separator),
+            "--to-separator" => Some(Setting::ToSeparator),
+            "--header" => Some(Setting::Header),
+            "--caption" => Some(Setting::Caption),
+            "--script" => Some(Setting::Script),
+            "--output" | "-o" => Some(Setting::Output),
+            "--check" => Some(Setting::Checks),
+            _ => None,
+        }
+    }
+
+    /// The option that sets it.
+    pub(crate) fn name(self) -> &'static str
+        ensures { result.now ≡ name_of self }
+    {
+        match self {
+            Setting::Form => "--to",
+            Setting::Picture => "--draw",
+            Setting::Style => "--style",
+            Setting::Alignments => "--align",
+            Setting::Width => "--width",
+            Setting::Columns => "--columns",
+            Setting::Rows(kind) => kind.option(),
+            Setting::Separator => "--separator",
+            Setting::ToSeparator => "--to-separator",
+            Setting::Header => "--header",
+            Setting::Caption => "--caption",
+            Setting::Script => "--script",
+            Setting::Output => "--output",
+            Setting::Checks => "--check",
+        }
+    }
+
+    /// Says whether a value stands behind its option.
+    pub(crate) fn takes_value(self) -> bool
+        ensures { result ≡ takes_value self }
+    {
+        !matches!(self, Setting::Picture | Setting::Checks)
+    }
+}
+
+impl Kind {
+    /// The option that reads a file of it.
+    fn option(self) -> &'static str
+        ensures { result.now ≡ name_of (setting.Rows self) }
+    {
+        match self {
+            Kind::Csv => "--csv",
+        }
+    }
+}
+
+/// What a table is written as, by name.
+pub(crate) fn written_named(name: &str) -> Option<Written>
+    ensures { result ≡ named_in forms name.now }
+{
+    match name {
+        "script" => Some(Written::Script),
+        "csv" => Some(Written::Csv),
+        "html" => Some(Written::Html),
+        "html-page" => Some(Written::HtmlPage),
+        _ => None,
+    }
+}
+
+/// What a picture is drawn in by a name.
+pub(crate) fn drawn_named(name: &str) -> Option<Drawn>
+    ensures { result ≡ drawn_named name.now }
+{
+    // As Markdown a table has to be escaped, and not only drawn.
+    if name == "markdown" {
+        return Some(Drawn::Markdown);
+    }
+    let style = Style::named(name)?;
+    Some(Drawn::Style(style))
 }
 
 fn alignment_of(letter: u8) -> Option<Alignment>
@@ -66,4 +223,17 @@ pub(crate) fn separator_of(name: &str) -> Option<Separator>
         [byte] => Separator::new(*byte),
         _ => None,
     }
+}
+
+/// The options that read a file of rows, as its name ends.
+pub(crate) fn read_by(name: &str) -> Option<&'static str>
+    ensures { option_map (λ options. options.now) result ≡ read_by name.now }
+{
+    if name.ends_with(".csv") {
+        return Some("--csv");
+    }
+    if name.ends_with(".tsv") {
+        return Some("--separator tab --csv");
+    }
+    None
 }

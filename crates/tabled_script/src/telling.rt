@@ -1,35 +1,168 @@
-//! What is told of a line, beside the answer.
+//! What is told beside the answer: of lines, of files, and of a status.
 
+use crate::inputs::{JoinError, RowsError, SourceFault, SourcesError, lent_step};
 use crate::message::{complaint, push_quoted};
-use crate::respond::{FAILED, OUT_OF_MEMORY};
-use crate::source::{Place, Source};
+use crate::outcome::{FAILED, OUT_OF_MEMORY, Outcome};
+use crate::request::Source;
 use std::alloc::{AllocError, Global};
 use std::io::Write;
-use tabled_language::{Fault, faulty_word_of_line};
+use tabled_grid::records::CellText;
+use tabled_language::{
+    Fault, LentText, Origin, count_lines, faulty_word, faulty_word_of_line, origin_of,
+};
 
 /// How many bytes of a line are told.
 const TOLD: usize = 400;
 
-/// Tells where the first faulty line stands, its word at fault and the likely cure, and its words as they were read.
-/// Nothing is told where that can't be written, or memory runs out.
-pub(crate) fn tell_fault<E: Write>(
+/// What a script is read from, as who wrote it counts.
+#[derive(Clone, Copy)]
+pub(crate) struct Lines<'s, 'r> {
+    /// How many rows stand before the lines of the script.
+    pub(crate) rows: usize,
+    pub(crate) script: &'s [u8],
+    pub(crate) steps: &'r [Vec<String>],
+}
+
+impl<'s, 'r> Lines<'s, 'r> {
+    /// Where the line of a number stands.
+    fn origin(&self, number: usize) -> Origin {
+        origin_of(self.rows, count_lines(self.script), number)
+    }
+
+    /// A line of the script, by its number there.
+    fn line(&self, number: usize) -> &'s [u8] {
+        let mut lines = self.script.split(|byte| *byte == b'\n');
+        lines.nth(number.saturating_sub(1)).unwrap_or(&[])
+    }
+
+    /// The words of a step, by its number.
+    fn step(&self, number: usize) -> &'r [String] {
+        match self.steps.get(number.saturating_sub(1)) {
+            Some(words) => words,
+            None => &[],
+        }
+    }
+
+    /// As many words of a line as are told.
+    fn words(&self, alloc: Global, origin: Origin) -> Result<ToldWords, AllocError> {
+        let mut told = ToldWords::new(alloc);
+        match origin {
+            Origin::Row(_) => {}
+            Origin::Line(number) => {
+                for word in self.line(number).split(|byte| *byte == b'\t') {
+                    told.push(alloc, word)?;
+                }
+            }
+            Origin::Words(number) => {
+                for word in self.step(number) {
+                    told.push(alloc, word.as_bytes())?;
+                }
+            }
+        }
+        Ok(told)
+    }
+
+    /// Which word of a faulty line its fault is at.
+    fn faulty_word(&self, alloc: Global, origin: Origin) -> Result<usize, AllocError> {
+        match origin {
+            Origin::Row(_) => Ok(0),
+            Origin::Line(number) => faulty_word_of_line(alloc, self.line(number)),
+            Origin::Words(number) => faulty_word(alloc, &lent_step(alloc, self.step(number))?),
+        }
+    }
+}
+
+/// Words that are told, up to so many bytes.
+#[derive(Drop)]
+struct ToldWords {
+    words: Vec<String>,
+    /// How many more bytes are told.
+    left: usize,
+    is_cut: bool,
+}
+
+impl ToldWords {
+    fn new(alloc: Global) -> Self {
+        ToldWords {
+            words: Vec::new(alloc),
+            left: TOLD,
+            is_cut: false,
+        }
+    }
+
+    /// Adds a word, or its beginning, while there is room for it.
+    fn push(&mut self, alloc: Global, word: &[u8]) -> Result<(), AllocError> {
+        if self.left == 0 {
+            self.is_cut = true;
+            return Ok(());
+        }
+        let end = word.len().min(self.left);
+        self.words
+            .push(String::from_utf8_lossy(alloc, &word[..end])?)?;
+        // Each word has a byte between it and the next one.
+        self.left = (self.left - end).saturating_sub(1);
+        self.is_cut = end < word.len();
+        Ok(())
+    }
+
+    /// Adds the words in quotes to what is told, and whether there are more.
+    fn push_to(&self, told: &mut String) -> Result<(), AllocError> {
+        for word in &self.words {
+            told.push(' ')?;
+            push_quoted(told, word.as_str())?;
+        }
+        if self.is_cut {
+            told.push_str(" ..")?;
+        }
+        Ok(())
+    }
+}
+
+/// Tells of what comes of a script that isn't its table: where its first faulty line stands, the word at fault and the
+/// likely cure, and its words as they were read; or how many columns a picture takes; or that memory ran out. Nothing is told
+/// where that can't be written, or memory runs out.
+pub(crate) fn tell_outcome<E: Write>(
     alloc: Global,
-    source: Source,
-    fault: (usize, Fault),
+    lines: Lines,
+    outcome: Outcome,
     errors: &mut E,
 ) {
-    let (number, fault) = fault;
-    if let Ok(lines) = fault_lines(alloc, source.place(number), fault, source.line(number)) {
-        // Where it can't be told, the answer is the same.
-        let _ = errors.write_all(lines.as_bytes());
+    match outcome {
+        Outcome::Faulty(number, fault) => tell(fault_lines(alloc, lines, number, fault), errors),
+        Outcome::TooNarrow(narrow) => narrow.tell(alloc, errors),
+        Outcome::OutOfMemory => tell_status(OUT_OF_MEMORY, errors),
+        // Who gives the writer knows why it failed.
+        Outcome::Written | Outcome::Failed => {}
     }
 }
 
 /// Tells of a line that it names nothing in its table.
-pub(crate) fn tell_naming<E: Write>(alloc: Global, source: Source, number: usize, errors: &mut E) {
-    if let Ok(line) = naming_line(alloc, source.place(number), source.line(number)) {
-        // Where it can't be told, the answer is the same.
-        let _ = errors.write_all(line.as_bytes());
+pub(crate) fn tell_naming<E: Write>(alloc: Global, lines: Lines, number: usize, errors: &mut E) {
+    tell(naming_line(alloc, lines, number), errors);
+}
+
+/// Tells why files have no table: where one is faulty and what is wrong there, or which first rows differ.
+pub(crate) fn tell_sources_error<E: Write>(
+    alloc: Global,
+    sources: &[Source],
+    error: &SourcesError,
+    errors: &mut E,
+) {
+    match error {
+        SourcesError::Unread(index, RowsError::Faulty { line, fault }) => {
+            tell(
+                source_fault_line(alloc, name_of(sources, *index), *line, *fault),
+                errors,
+            );
+        }
+        SourcesError::Unjoined(index, JoinError::Differs { head, first }) => {
+            tell(
+                difference_lines(alloc, name_of(sources, *index), head, first),
+                errors,
+            );
+        }
+        SourcesError::Unread(_, RowsError::OutOfMemory)
+        | SourcesError::Unjoined(_, JoinError::OutOfMemory) => tell_status(OUT_OF_MEMORY, errors),
     }
 }
 
@@ -46,61 +179,101 @@ pub fn tell_status<E: Write>(status: u8, errors: &mut E) {
     let _ = errors.write_all(line);
 }
 
+/// Writes what is told, if there was memory for it.
+fn tell<E: Write>(told: Result<String, AllocError>, errors: &mut E) {
+    if let Ok(lines) = told {
+        // Where it can't be told, the answer is the same.
+        let _ = errors.write_all(lines.as_bytes());
+    }
+}
+
 /// A line that says where a faulty line stands, what is wrong with it and its cure, and one with its words.
 fn fault_lines(
     alloc: Global,
-    place: Place,
+    lines: Lines,
+    number: usize,
     fault: Fault,
-    line: &[u8],
 ) -> Result<String, AllocError> {
-    let mut lines = begun(alloc, place)?;
-    let at = faulty_word_of_line(alloc, line)?;
-    let text = told_text(alloc, line)?;
-    let mut words = Vec::new(alloc);
-    for word in text.split('\t') {
-        words.push(word)?;
-    }
-    let complaint = complaint(alloc, fault, &words, at)?;
+    let origin = lines.origin(number);
+    let at = lines.faulty_word(alloc, origin)?;
+    let words = lines.words(alloc, origin)?;
+    let mut told = begun(alloc, origin)?;
+    let complaint = complaint(alloc, fault, &words.words, at)?;
     let number = fault.number();
-    lines.push_str(complaint.as_str())?;
+    told.push_str(complaint.as_str())?;
     let explained = format!(in alloc; " (fault {number}: --explain {number})\n  in:")?;
-    lines.push_str(explained.as_str())?;
-    push_words(&mut lines, &words, text.len() < line.len())?;
-    Ok(lines)
+    told.push_str(explained.as_str())?;
+    words.push_to(&mut told)?;
+    told.push('\n')?;
+    Ok(told)
 }
 
 /// A line that says where a line stands that names nothing in its table, and its words.
-fn naming_line(alloc: Global, place: Place, line: &[u8]) -> Result<String, AllocError> {
-    let mut told = begun(alloc, place)?;
-    let text = told_text(alloc, line)?;
-    let mut words = Vec::new(alloc);
-    for word in text.split('\t') {
-        words.push(word)?;
-    }
+fn naming_line(alloc: Global, lines: Lines, number: usize) -> Result<String, AllocError> {
+    let origin = lines.origin(number);
+    let mut told = begun(alloc, origin)?;
     told.push_str("names nothing in the table:")?;
-    push_words(&mut told, &words, text.len() < line.len())?;
+    lines.words(alloc, origin)?.push_to(&mut told)?;
+    told.push('\n')?;
     Ok(told)
 }
 
 /// The beginning of a line that tells where a line stands.
-fn begun(alloc: Global, place: Place) -> Result<String, AllocError> {
-    match place {
-        Place::Line(number) => format!(in alloc; "tabled_script: line {number}: "),
-        Place::Step(number) => format!(in alloc; "tabled_script: step {number}: "),
+fn begun(alloc: Global, origin: Origin) -> Result<String, AllocError> {
+    match origin {
+        Origin::Row(number) => format!(in alloc; "tabled_script: row {number}: "),
+        Origin::Line(number) => format!(in alloc; "tabled_script: line {number}: "),
+        Origin::Words(number) => format!(in alloc; "tabled_script: step {number}: "),
     }
 }
 
-/// As much of a line as is told.
-fn told_text(alloc: Global, line: &[u8]) -> Result<String, AllocError> {
-    let end = line.len().min(TOLD);
-    String::from_utf8_lossy(alloc, &line[..end])
+/// The name of a file.
+fn name_of(sources: &[Source], index: usize) -> &str {
+    match sources.get(index) {
+        Some(source) => source.name.as_str(),
+        None => "",
+    }
 }
 
-/// Adds words in quotes, and whether there are more.
-fn push_words(told: &mut String, words: &[&str], is_cut: bool) -> Result<(), AllocError> {
-    for word in words {
-        told.push(' ')?;
-        push_quoted(told, word)?;
+/// A line that says in which line of a file what is wrong, and its likely cure.
+fn source_fault_line(
+    alloc: Global,
+    name: &str,
+    line: usize,
+    fault: SourceFault,
+) -> Result<String, AllocError> {
+    match fault {
+        SourceFault::Csv(tabled_csv::Fault::NotUtf8) => format!(in alloc;
+            "tabled_script: {name}: line {line}: a field is not UTF-8: 'iconv -f LATIN1 -t UTF-8' makes it of Latin-1\n"
+        ),
+        SourceFault::Csv(fault) => {
+            format!(in alloc; "tabled_script: {name}: line {line}: {fault}\n")
+        }
     }
-    told.push_str(if is_cut { " ..\n" } else { "\n" })
+}
+
+/// A line that says that a file begins with another row than those before, and one with both rows.
+fn difference_lines(
+    alloc: Global,
+    name: &str,
+    head: &[LentText],
+    first: &[LentText],
+) -> Result<String, AllocError> {
+    let mut told = format!(in alloc;
+        "tabled_script: {name}: its first row is not that of the files before it\n "
+    )?;
+    told_texts(alloc, first)?.push_to(&mut told)?;
+    told.push_str(" in place of")?;
+    told_texts(alloc, head)?.push_to(&mut told)?;
+    told.push('\n')?;
+    Ok(told)
+}
+
+/// As many texts of a row as are told.
+fn told_texts(alloc: Global, row: &[LentText]) -> Result<ToldWords, AllocError> {
+    let mut told = ToldWords::new(alloc);
+    for text in row {
+        told.push(alloc, text.text().as_bytes())?;
+    }
+    Ok(told)
 }

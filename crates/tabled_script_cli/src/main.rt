@@ -1,86 +1,94 @@
-//! The script program over standard input and output, as its arguments ask.
+//! The script program: what its arguments ask for, done with the files that they name, standard input and standard output.
 #![tactic(auto)]
 
-use std::io::{self, ErrorKind};
+mod input;
+mod output;
+
+use input::{read_file, read_script};
+use output::Output;
+use std::env;
+use std::io::{self, ErrorKind, IsTerminal, Stderr};
 use std::process::ExitCode;
-use std::{env, fs};
-use tabled_script::{
-    Arguments, Refusal, Request, Telling, Unread, answer, read_whole, tell_status, told_instead,
-};
+use tabled_script::{Arguments, Invocation, Refusal, answer, run_script, told_instead};
 
 fn main(rt: HostRuntime) -> ExitCode {
-    let mut writer = io::writer(&rt);
     let mut errors = rt.stderr();
-    let status = match asked(&rt) {
-        Ok(Wanted::Table(request)) => {
-            let mut reader = rt.reader();
-            let status = answer(rt.alloc(), &request, &mut reader, &mut writer, &mut errors);
-            if request.tells_faults {
-                tell_status(status, &mut errors);
-            }
-            status
-        }
-        Ok(Wanted::Telling(telling)) => telling.tell(&mut writer, &mut errors),
-        Err(refusal) => refusal.tell(rt.alloc(), &mut writer, &mut errors),
+    let status = match run(&rt, &mut errors) {
+        Ok(status) => status,
+        Err(refusal) => refusal.tell(rt.alloc(), &mut errors),
     };
     ExitCode::from(status)
 }
 
-/// A table, or what is told in its place.
-enum Wanted {
-    Table(Request),
-    Telling(Telling),
-}
-
-/// What the arguments ask for.
-fn asked(rt: &HostRuntime) -> Result<Wanted, Refusal> {
+/// Does what the arguments ask for, and answers a status.
+fn run(rt: &HostRuntime, errors: &mut Stderr) -> Result<u8, Refusal> {
     let alloc = rt.alloc();
-    let arguments = match env::args(rt) {
-        Ok(arguments) => arguments,
-        Err(error) => return Err(refusal(&error, Refusal::NotText)),
-    };
-    let mut words = Vec::new(alloc);
-    // The first one is the program's name.
-    for argument in arguments.skip(1) {
-        words.push(argument)?;
+    let words = words(rt)?;
+    if words.is_empty() {
+        return run_alone(rt);
     }
     if let Some(telling) = told_instead(alloc, &words)? {
-        return Ok(Wanted::Telling(telling));
+        let mut output = Output::standard(rt);
+        let status = telling.tell(&mut output, errors);
+        return Ok(output.close(status, errors));
     }
     let mut arguments = Arguments::new(alloc);
     for word in &words {
         arguments = arguments.take(alloc, word.as_str())?;
     }
-    let mut request = arguments.into_request(alloc)?;
-    if let Some(file) = &mut request.file {
-        file.bytes = read_file(rt, file.name.as_str())?;
-    }
-    Ok(Wanted::Table(request))
+    answer_invocation(rt, arguments.into_invocation(alloc)?, errors)
 }
 
-/// The bytes of a file, or of standard input where it is called `-`.
-fn read_file(rt: &HostRuntime, name: &str) -> Result<Vec<u8>, Refusal> {
-    let alloc = rt.alloc();
-    let unread = Refusal::Unread(String::from_str(alloc, name)?);
-    let read = if name == "-" {
-        read_whole(Vec::new(alloc), &mut rt.reader(), &[])
-    } else {
-        match fs::open(rt, name) {
-            Ok(mut file) => read_whole(Vec::new(alloc), &mut file, &[]),
-            Err(error) => return Err(refusal(&error, unread)),
+/// Runs the script of standard input where there are no arguments. Nothing is told.
+fn run_alone(rt: &HostRuntime) -> Result<u8, Refusal> {
+    if rt.stdin().is_terminal() {
+        return Err(Refusal::Terminal);
+    }
+    let mut output = Output::standard(rt);
+    let status = run_script(rt.alloc(), &mut rt.reader(), &mut output);
+    Ok(output.close(status, &mut io::sink()))
+}
+
+/// Reads the files that are asked for, and writes the table.
+fn answer_invocation(
+    rt: &HostRuntime,
+    invocation: Invocation,
+    errors: &mut Stderr,
+) -> Result<u8, Refusal> {
+    let Invocation {
+        mut request,
+        script,
+        output,
+    } = invocation;
+    for source in &mut request.sources {
+        source.bytes = read_file(rt, source.name.as_str())?;
+    }
+    let script = match &script {
+        Some(name) => read_script(rt, name.as_str(), !request.steps.is_empty())?,
+        None => Vec::new(rt.alloc()),
+    };
+    let mut output = match &output {
+        Some(name) => Output::file(rt, name.as_str()),
+        None => Output::standard(rt),
+    };
+    let status = answer(rt.alloc(), &request, &script, &mut output, errors);
+    Ok(output.close(status, errors))
+}
+
+/// The arguments, without the program's name.
+fn words(rt: &HostRuntime) -> Result<Vec<String>, Refusal> {
+    let arguments = match env::args(rt) {
+        Ok(arguments) => arguments,
+        Err(error) => {
+            return Err(match error.kind() {
+                ErrorKind::OutOfMemory => Refusal::OutOfMemory,
+                _ => Refusal::NotText,
+            });
         }
     };
-    match read {
-        Ok(bytes) => Ok(bytes),
-        Err(Unread::OutOfMemory) => Err(Refusal::OutOfMemory),
-        Err(Unread::Failed) => Err(unread),
+    let mut words = Vec::new(rt.alloc());
+    for argument in arguments.skip(1) {
+        words.push(argument)?;
     }
-}
-
-/// Want of memory, where an error is that, or else another refusal.
-fn refusal(error: &io::Error, otherwise: Refusal) -> Refusal {
-    match error.kind() {
-        ErrorKind::OutOfMemory => Refusal::OutOfMemory,
-        _ => otherwise,
-    }
+    Ok(words)
 }

@@ -2,21 +2,21 @@
 
 mod streams;
 
-use crate::respond::finish;
-use std::alloc::AllocError;
-use std::io::{self, ErrorKind};
+use crate::outcome::Outcome;
+use crate::program::write_end;
 use std::test::Fail;
+use tabled_language::Fault;
 
 #[test]
 fn says_how_it_ended(rt: HostRuntime) -> Result<(), Fail> {
-    for &(answered, status, bytes) in &[
-        (Ok((Ok(()), 0)), 0, ""),
-        (Ok((Ok(()), 2)), 2, ""),
-        (Ok((Err(io::Error::from(ErrorKind::BrokenPipe)), 0)), 4, ""),
-        (Err(AllocError), 3, "out of memory\n"),
+    for &(outcome, status, bytes) in &[
+        (Outcome::Written, 0, ""),
+        (Outcome::Faulty(12, Fault::Escape), 2, "line 12: fault 4\n"),
+        (Outcome::OutOfMemory, 3, "out of memory\n"),
+        (Outcome::Failed, 4, ""),
     ] {
         let mut written = Vec::new(rt.alloc());
-        assert_eq!(rt; finish(&mut written, answered), status);
+        assert_eq!(rt; write_end(rt.alloc(), outcome, &mut written), status);
         assert_eq!(rt; written.as_slice(), bytes.as_bytes());
     }
     Ok(())

@@ -1,8 +1,8 @@
 //! Scripts run over readers and writers that give and take little, fail, or are interrupted.
 
-use crate::respond::finish;
+use crate::outcome::Outcome;
+use crate::program::write_end;
 use crate::run_script;
-use std::alloc::AllocError;
 use std::io::{self, ErrorKind, Read, Write};
 use std::test::Fail;
 
@@ -121,7 +121,7 @@ fn what_is_written_is_flushed_or_failed(rt: HostRuntime) -> Result<(), Fail> {
                         flushed: Vec::new(alloc),
                     };
                     let answered = if status == 3 {
-                        finish(&mut writer, Err(AllocError))
+                        write_end(alloc, Outcome::OutOfMemory, &mut writer)
                     } else {
                         let mut reader = script.as_bytes();
                         run_script(alloc, &mut reader, &mut writer)

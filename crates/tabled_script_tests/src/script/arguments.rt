@@ -2,21 +2,21 @@
 
 use std::alloc::Global;
 use std::test::Fail;
-use tabled_script::{Arguments, Refusal, Request, answer};
+use tabled_script::{Arguments, Invocation, Refusal, answer};
 
 /// What arguments ask for, which stand apart by bars, with the bytes of a file.
-fn request(alloc: Global, arguments: &str, file: &str) -> Result<Request, Refusal> {
+fn invocation(alloc: Global, arguments: &str, file: &str) -> Result<Invocation, Refusal> {
     let mut taken = Arguments::new(alloc);
     for argument in arguments.split('|') {
         if !arguments.is_empty() {
             taken = taken.take(alloc, argument)?;
         }
     }
-    let mut request = taken.into_request(alloc)?;
-    if let Some(asked) = &mut request.file {
-        asked.bytes.extend_from_slice(file.as_bytes())?;
+    let mut invocation = taken.into_invocation(alloc)?;
+    for source in &mut invocation.request.sources {
+        source.bytes.extend_from_slice(file.as_bytes())?;
     }
-    Ok(request)
+    Ok(invocation)
 }
 
 #[test]
@@ -114,17 +114,41 @@ fn arguments_ask_for_steps_and_forms(rt: HostRuntime) -> Result<(), Fail> {
             "+----+---+\n| 漢 | x |\n| 字 |   |\n| 漢 |   |\n| 字 |   |\n+----+---+\n",
             "",
         ),
+        // The columns of a terminal are those of a picture, unless it is asked for in a width or written to a file.
         (
-            "--width|1|row|a b",
+            "--columns|7|row|aa b",
             "",
             "",
             0,
-            "shape\t1\t1\nrow\ta b\n",
+            "shape\t1\t1\nrow\taa b\n",
             "",
         ),
-        // The last value of an option counts.
         (
-            "--align|lc|--align|r|row|a b|c d|then|row|x|y",
+            "--columns|7|--draw|row|aa b",
+            "",
+            "",
+            0,
+            "+----+\n| aa |\n| b  |\n+----+\n",
+            "",
+        ),
+        (
+            "--columns|7|--width|20|row|aa b",
+            "",
+            "",
+            0,
+            "+------+\n| aa b |\n+------+\n",
+            "",
+        ),
+        (
+            "--columns|7|--draw|-o|f|row|aa b",
+            "",
+            "",
+            0,
+            "+------+\n| aa b |\n+------+\n",
+            "",
+        ),
+        (
+            "--align=r|row|a b|c d|then|row|x|y",
             "",
             "",
             0,
@@ -132,7 +156,7 @@ fn arguments_ask_for_steps_and_forms(rt: HostRuntime) -> Result<(), Fail> {
             "",
         ),
         (
-            "--to|csv|--separator|tab|row|a|b c",
+            "--to=csv|--separator=tab|row|a|b c",
             "",
             "",
             0,
@@ -141,7 +165,7 @@ fn arguments_ask_for_steps_and_forms(rt: HostRuntime) -> Result<(), Fail> {
         ),
         // Markdown is escaped, and of no width.
         (
-            "--width|9|--style|markdown|--align|lr|set|cell|1|0|<br>",
+            "--columns|9|--style|markdown|--align|lr|set|cell|1|0|<br>",
             "",
             "row\ta|b\tx\\ny\nrow\t1\t2\nspan\t1\t0\t1\t2\n",
             0,
@@ -149,46 +173,77 @@ fn arguments_ask_for_steps_and_forms(rt: HostRuntime) -> Result<(), Fail> {
             "",
         ),
         (
-            "--style|markdown|--style|ascii|row|a",
+            "--draw|--|row|--draw|-|then|row|--",
             "",
             "",
             0,
-            "+---+\n| a |\n+---+\n",
+            "+--------+---+\n| --draw | - |\n+--------+---+\n| --     |   |\n+--------+---+\n",
             "",
         ),
-        // Faults are told with the words of their lines, if that is asked for.
-        ("vmreg", "", "row\ta", 2, "line 2: fault 1\n", ""),
-        ("vmreg", "", "row\ta\n", 2, "line 2: fault 1\n", ""),
         (
-            "--tell|vmreg",
+            "--separator|;|--to-separator|,|--csv|f",
+            "a;b\n",
             "",
+            0,
+            "a,b\n",
             "",
+        ),
+        // HTML has merged cells, and what is asked for of it.
+        (
+            "--to|html|set|cell|1|0|<br>",
+            "",
+            "row\ta&b\tx\nrow\t1\t2\nspan\t1\t0\t1\t2\n",
+            0,
+            "<table>\n<tbody>\n<tr><td>a&amp;b</td><td>x</td></tr>\n<tr><td colspan=\"2\">&lt;br&gt;</td></tr>\n</tbody>\n</table>\n",
+            "",
+        ),
+        (
+            "--caption|C|--align|lr|--header|1|--csv|f",
+            "a,b\nc,d\n",
+            "",
+            0,
+            "<table>\n<caption>C</caption>\n<thead>\n<tr><th scope=\"col\" style=\"text-align: left\">a</th><th scope=\"col\" style=\"text-align: right\">b</th></tr>\n</thead>\n<tbody>\n<tr><td style=\"text-align: left\">c</td><td style=\"text-align: right\">d</td></tr>\n</tbody>\n</table>\n",
+            "",
+        ),
+        // Faults are told with the words of their lines, and nothing is written.
+        (
+            "vmreg",
+            "",
+            "row\ta",
             2,
-            "line 1: fault 1\n",
+            "",
             "tabled_script: step 1: 'vmreg' is no word that can stand here; maybe vmerge is meant (fault 1: --explain 1)\n  in: 'vmreg'\n",
         ),
         (
-            "--csv|f|--tell|then|vmerge|then|then|vmreg",
+            "--check|vmreg",
+            "",
+            "",
+            2,
+            "",
+            "tabled_script: step 1: 'vmreg' is no word that can stand here; maybe vmerge is meant (fault 1: --explain 1)\n  in: 'vmreg'\n",
+        ),
+        (
+            "--csv|f|then|vmerge|then|then|vmreg",
             "a\nb\n",
             "",
             2,
-            "line 2: fault 1\n",
+            "",
             "tabled_script: step 2: 'vmreg' is no word that can stand here; maybe vmerge is meant (fault 1: --explain 1)\n  in: 'vmreg'\n",
         ),
         (
-            "--tell|vmerge|then|vmreg|a b",
+            "--align|l|vmerge|then|vmreg|a b",
             "",
             "row\ta\n",
             2,
-            "line 3: fault 1\n",
+            "",
             "tabled_script: step 2: 'vmreg' is no word that can stand here; maybe vmerge is meant (fault 1: --explain 1)\n  in: 'vmreg' 'a b'\n",
         ),
         (
-            "--tell|vmerge",
+            "--style|dots|vmerge",
             "",
             "\nset\tcel\t\u{1b}\u{e4}\r",
             2,
-            "line 2: fault 1\n",
+            "",
             "tabled_script: line 2: 'cel' is no word that can stand here; maybe cell is meant (fault 1: --explain 1)\n  in: 'set' 'cel' '\\u{1b}\u{e4}\\r'\n",
         ),
         // Each kind of step that may name nothing, and one that names something.
@@ -212,11 +267,11 @@ fn arguments_ask_for_steps_and_forms(rt: HostRuntime) -> Result<(), Fail> {
         ),
         // Rows of a file stand before those of a script, whose lines keep their numbers.
         (
-            "--csv|f|--tell",
+            "--csv|f",
             "a,\"b\tc\"\n1\n",
             "row\tx\nspin\n",
             2,
-            "line 2: fault 1\n",
+            "",
             "tabled_script: line 2: 'spin' is no word that can stand here; maybe span is meant (fault 1: --explain 1)\n  in: 'spin'\n",
         ),
         (
@@ -236,11 +291,11 @@ fn arguments_ask_for_steps_and_forms(rt: HostRuntime) -> Result<(), Fail> {
             "",
         ),
         (
-            "--csv|f|--tell",
+            "--csv|f",
             "a\n\"b",
             "spin",
             2,
-            "csv line 2: fault 1\n",
+            "",
             "tabled_script: f: line 2: a quote is not closed\n",
         ),
         (
@@ -248,18 +303,17 @@ fn arguments_ask_for_steps_and_forms(rt: HostRuntime) -> Result<(), Fail> {
             "a\"\t\"b\"c",
             "",
             2,
-            "csv line 1: fault 2\n",
             "",
+            "tabled_script: f: line 1: something is behind a closing quote\n",
         ),
     ] {
-        let asked = match request(alloc, arguments, file) {
-            Ok(asked) => asked,
+        let asked = match invocation(alloc, arguments, file) {
+            Ok(asked) => asked.request,
             Err(_) => return Err(Fail::from("refused")),
         };
-        let mut reader = script.as_bytes();
         let mut written = Vec::new(alloc);
         let mut errors = Vec::new(alloc);
-        let got = answer(alloc, &asked, &mut reader, &mut written, &mut errors);
+        let got = answer(alloc, &asked, script.as_bytes(), &mut written, &mut errors);
         assert_eq!(rt; got, status, "{arguments}");
         assert_eq!(rt; written.as_slice(), output.as_bytes(), "{arguments}");
         assert_eq!(rt; errors.as_slice(), told.as_bytes(), "{arguments}");
@@ -271,37 +325,117 @@ fn arguments_ask_for_steps_and_forms(rt: HostRuntime) -> Result<(), Fail> {
 fn what_cannot_be_asked_is_refused(rt: HostRuntime) -> Result<(), Fail> {
     let alloc = rt.alloc();
     for &(arguments, told) in &[
-        ("--spin", "there is no option --spin: --help lists them\n"),
-        ("--check|--csv", "the last option lacks its value\n"),
+        ("--spin", "there is no option --spin: --help lists them"),
+        (
+            "--check|--cvs|f",
+            "there is no option --cvs; maybe --csv is meant",
+        ),
+        ("-", "there is no option -; maybe -o is meant"),
+        (
+            "--draw|--help",
+            "there is no option --help here: it stands first",
+        ),
+        ("--check|--csv", "--csv lacks its value"),
+        ("--draw=yes", "--draw takes no value"),
         (
             "--style|Modern",
-            "there is no style Modern: ascii modern rounded sharp extended psql markdown re_structured_text dots ascii_rounded blank empty\n",
+            "there is no style Modern: ascii modern rounded sharp extended psql markdown re_structured_text dots ascii_rounded blank empty",
         ),
         (
-            "--align|lx",
-            "columns are aligned by letters l, c and r, not by lx\n",
+            "--align=lx",
+            "columns are aligned by letters l, c and r, not by lx",
         ),
         (
             "--separator|\"",
-            "\" is no separator: one character of ASCII, but no quote, or tab\n",
+            "\" is no separator: one character of ASCII, but no quote, or tab",
         ),
         (
-            "--separator|::",
-            ":: is no separator: one character of ASCII, but no quote, or tab\n",
+            "--to-separator|::",
+            ":: is no separator: one character of ASCII, but no quote, or tab",
         ),
-        ("--to|tsv", "a table is written --to csv, and not to tsv\n"),
-        ("--width|+9", "+9 is no number of columns\n"),
+        (
+            "--to|tsv",
+            "there is no form tsv: script csv html html-page",
+        ),
+        ("--width|+9", "+9 is no number of columns"),
+        ("--columns=", " is no number of columns"),
+        ("--header|one", "one is no number of rows"),
+        (
+            "--to|csv|--caption|x",
+            "--to and --caption contradict each other",
+        ),
+        (
+            "--style|dots|--header|1",
+            "--header and --style contradict each other",
+        ),
+        ("--csv|", "no name of a file stands behind --csv"),
+        ("--script=", "no name of a file stands behind --script"),
+        ("-o=", "no name of a file stands behind --output"),
+        ("--width|8|--width|9", "--width stands here twice"),
+        ("--output|f|-o|g", "--output stands here twice"),
+        (
+            "--csv|-|--csv|f|--script|-",
+            "standard input is read once: - stands here twice",
+        ),
+        ("sales.csv", "sales.csv is a file: --csv sales.csv"),
+        (
+            "--csv|f|row|f.csv|then|g.tsv",
+            "g.tsv is a file: --separator tab --csv g.tsv",
+        ),
+        (
+            "--to|csv|--style|modern",
+            "--to and --style contradict each other",
+        ),
+        (
+            "--width|9|--to|script",
+            "--to and --width contradict each other",
+        ),
+        (
+            "--to-separator|tab|--align|l|--draw",
+            "--draw and --to-separator contradict each other",
+        ),
     ] {
-        let mut written = Vec::new(alloc);
         let mut errors = Vec::new(alloc);
-        let status = match request(alloc, arguments, "") {
+        let status = match invocation(alloc, arguments, "") {
             Ok(_) => 0,
-            Err(refusal) => refusal.tell(alloc, &mut written, &mut errors),
+            Err(refusal) => refusal.tell(alloc, &mut errors),
         };
         assert_eq!(rt; status, 1, "{arguments}");
-        let line = format!(in alloc; "tabled_script: {told}")?;
-        assert_eq!(rt; errors.as_slice(), line.as_bytes());
-        assert!(rt; written.is_empty());
+        let line = format!(in alloc; "tabled_script: {told}\n")?;
+        assert_eq!(rt; errors.as_slice(), line.as_bytes(), "{arguments}");
     }
     Ok(())
+}
+
+#[test]
+fn files_are_named(rt: HostRuntime) -> Result<(), Fail> {
+    let alloc = rt.alloc();
+    for &(arguments, sources, script, output) in &[
+        ("", "", "-", ""),
+        ("--draw", "", "-", ""),
+        ("--csv|b|--csv|a|row|c", "b a ", "", ""),
+        ("--csv|-|--script|s|-o|t", "- ", "s", "t"),
+        ("--script|s|--output=-", "", "s", "-"),
+    ] {
+        let named = match invocation(alloc, arguments, "") {
+            Ok(named) => named,
+            Err(_) => return Err(Fail::from("refused")),
+        };
+        let mut names = String::new(alloc);
+        for source in &named.request.sources {
+            names.push_str(source.name.as_str())?;
+            names.push(' ')?;
+        }
+        assert_eq!(rt; names.as_str(), sources, "{arguments}");
+        assert_eq!(rt; name_or_none(&named.script), script, "{arguments}");
+        assert_eq!(rt; name_or_none(&named.output), output, "{arguments}");
+    }
+    Ok(())
+}
+
+fn name_or_none(name: &Option<String>) -> &str {
+    match name {
+        Some(name) => name.as_str(),
+        None => "",
+    }
 }

@@ -5,4 +5,5 @@ mod arguments;
 mod faults;
 mod gallery;
 mod help;
+mod sources;
 mod widths;

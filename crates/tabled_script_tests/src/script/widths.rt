@@ -9,11 +9,16 @@ use tabled_width::columns_of;
 /// The status of a script whose table is drawn in at most so many columns, and whether no line of its picture is wider.
 fn draw_in(alloc: Global, script: &str, width: usize) -> Result<(u8, bool), Fail> {
     let form = Form::NarrowPicture(width, Style::modern(), Vec::new(alloc));
-    let mut reader = script.as_bytes();
     let mut written = Vec::new(alloc);
     let mut errors = Vec::new(alloc);
     let request = Request::new(alloc, form);
-    let status = answer(alloc, &request, &mut reader, &mut written, &mut errors);
+    let status = answer(
+        alloc,
+        &request,
+        script.as_bytes(),
+        &mut written,
+        &mut errors,
+    );
     let picture = String::from_utf8_lossy(alloc, &written)?;
     let is_narrow = picture.lines().all(|line| columns_of(line) <= width);
     Ok((status, is_narrow))

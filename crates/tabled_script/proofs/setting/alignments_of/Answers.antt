@@ -1,6 +1,6 @@
 use Rattle.tabled_script.proofs.AlignmentLetters.{alignments-more, alignments-none_at}
 use Rattle.tabled_script.proofs.Common.{◌∙◌, Some, ap, sym, take, take_more}
-use Rattle.tabled_script.specs.Arguments.{alignments_of}
+use Rattle.tabled_script.specs.Settings.{alignments_of}
 use Rattle.tabled_script.proofs.setting.alignments_of.Goals as goal
 
 pub loop-letter-preserved : goal.loop-letter-preserved

@@ -1,5 +1,5 @@
 use Rattle.std.specs.Prelude.{◌≡◌, Some, take}
-use Rattle.tabled_script.specs.Arguments.{alignments_of}
+use Rattle.tabled_script.specs.Settings.{alignments_of}
 use Rattle.tabled_script.proofs.setting.alignments_of.Given as goal
 
 abbrev pub invariant-loop-letter : goal.invariant-loop-letter

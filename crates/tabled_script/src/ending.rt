@@ -1,0 +1,101 @@
+//! The table that a script ends with, written.
+
+ghost use Rattle.std.specs.Prelude.{◌≡◌, IfOk};
+ghost use Rattle.tabled_grid.specs.Grid.{IsEven, grid_of, map_items};
+ghost use Rattle.tabled_language.specs.Lent.{texts_in_records};
+ghost use Rattle.tabled_language.specs.Parsing.{cell_texts};
+ghost use Rattle.tabled_language.specs.Script.{parse_between};
+ghost use Rattle.tabled_script.specs.Answer.{ended};
+ghost use Rattle.tabled_script.specs.InMemory.{said_by, state_in};
+ghost use Rattle.tabled_script.specs.Outcome.{Comes, ComesOfState};
+
+use crate::checked::run_checked;
+use crate::inputs::lent_words;
+use crate::outcome::Outcome;
+use crate::request::Request;
+use crate::telling::Lines;
+use std::alloc::{AllocError, Global};
+use std::io::Write;
+use tabled_grid::config::SpannedConfig;
+use tabled_language::{LentText, ParseError, Script, padded, parse_between};
+use tabled_steps::run;
+
+/// Reads the script of rows, bytes and the steps of a request, and writes the table that it ends with in the form that
+/// is asked for. Steps that name nothing are told where that is asked for.
+pub(crate) fn run_between<W: Write, E: Write>(
+    alloc: Global,
+    request: &Request,
+    rows: Vec<Vec<LentText>>,
+    script: &[u8],
+    writer: &mut W,
+    errors: &mut E,
+) -> Outcome
+    ensures { Comes request.now.form (parse_between (texts_in_records rows.entry.items) script.now (cell_texts request.now.steps.items)) (W.contents writer.old) (W.contents writer.new) result }
+{
+    let lines = Lines {
+        rows: rows.len(),
+        script,
+        steps: &request.steps,
+    };
+    let Ok(words) = lent_words(alloc, &request.steps) else {
+        return Outcome::OutOfMemory;
+    };
+    match parse_between(alloc, rows, script, words) {
+        Ok(script) => run_parsed(alloc, request, lines, script, writer, errors),
+        Err(ParseError::Faulty { line, fault }) => Outcome::Faulty(line, fault),
+        Err(ParseError::OutOfMemory) => Outcome::OutOfMemory,
+    }
+}
+
+/// Writes the table of a script's records and merged cells after its steps.
+fn run_parsed<W: Write, E: Write>(
+    alloc: Global,
+    request: &Request,
+    lines: Lines,
+    script: Script,
+    writer: &mut W,
+    errors: &mut E,
+) -> Outcome
+    ensures { ComesOfState request.now.form (ended (said_by script.entry)) (W.contents writer.old) (W.contents writer.new) result }
+{
+    match state_at_end(alloc, request.checks_steps, lines, script, errors) {
+        Ok((records, spans)) => request.form.write(alloc, records, &spans, writer),
+        Err(_) => Outcome::OutOfMemory,
+    }
+}
+
+/// The cells and the merged cells of a script after its steps.
+fn state_at_end<'a, E: Write>(
+    alloc: Global,
+    checks_steps: bool,
+    lines: Lines,
+    script: Script<'a>,
+    errors: &mut E,
+) -> Result<(Vec<Vec<LentText<'a>>>, SpannedConfig), AllocError>
+    ensures well { IfOk result (λ end. IsEven (grid_of (map_items end.0.items))) }
+    ensures state { IfOk result (λ end. state_in end.0.items end.1 ≡ ended (said_by script.entry)) }
+{
+    let Script {
+        records,
+        mut spans,
+        steps,
+        step_lines,
+    } = script;
+    let mut records = padded(records)?;
+    if checks_steps {
+        run_checked(
+            alloc,
+            &mut records,
+            &mut spans,
+            steps,
+            &step_lines,
+            lines,
+            errors,
+        )?;
+        return Ok((records, spans));
+    }
+    match run(alloc, &mut records, &mut spans, steps) {
+        Ok(()) => Ok((records, spans)),
+        Err((_, error)) => Err(error),
+    }
+}

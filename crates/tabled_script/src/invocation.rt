@@ -1,0 +1,323 @@
+//! What the arguments ask for, as a whole.
+
+ghost use Rattle.std.specs.List.{find};
+ghost use Rattle.std.specs.Option.{option_map, unwrap_or};
+ghost use Rattle.std.specs.Prelude.{◌≡◌, ◌++◌, ◌&&◌, ◌==◌, [], IfErr, IfOk, None, length, map, not};
+ghost use Rattle.std.specs.String.{string_bytes};
+ghost use Rattle.tabled_script.specs.Arguments.{is_set, named_files, step_of, words_of};
+ghost use Rattle.tabled_script.specs.Requests.{IsForm, IsUnmade, awaited, contradiction, deciding, drawn_of, files_of, format_of, goes_with, named_source, says_html, script_of, separator_of, settings_of_forms, to_separator_of, unread_files, writing_of, width_of, written_of};
+
+use crate::arguments::{Arguments, Next, push_step};
+use crate::form::Form;
+use crate::html_form::HtmlPage;
+use crate::refusal::Refusal;
+use crate::request::{Format, Request, Source};
+use crate::setting::{Drawn, Kind, Setting, Written};
+use std::alloc::{AllocError, Global};
+use tabled_csv::Separator;
+use tabled_draw::{Alignment, Style};
+
+/// What the arguments ask for.
+///
+/// Of this project.
+#[derive(Drop)]
+pub struct Invocation {
+    /// What is asked of `answer`, without the bytes of its sources.
+    pub request: Request,
+    /// The file of the script, if there is one: `-` for standard input.
+    pub script: Option<String>,
+    /// The file that the table is written to, in place of standard output.
+    pub output: Option<String>,
+}
+
+/// The settings that say what a table is written as, in the order in which they are named.
+const SETTINGS_OF_FORMS: [Setting; 8] = [
+    Setting::Form,
+    Setting::Header,
+    Setting::Caption,
+    Setting::Style,
+    Setting::Picture,
+    Setting::Alignments,
+    Setting::Width,
+    Setting::ToSeparator,
+];
+
+impl Arguments {
+    /// What was asked for. The bytes of files are not read yet. It is refused where the last option lacks its value, or two
+    /// contradict each other.
+    pub fn into_invocation(self, alloc: Global) -> Result<Invocation, Refusal>
+        ensures whole { IfOk result (λ _. awaited self.next ≡ None) }
+        ensures agrees { IfOk result (λ _. contradiction self ≡ None) }
+        ensures form { IfOk result (λ invocation. IsForm (writing_of self) invocation.request.form) }
+        ensures sources { IfOk result (λ invocation. map named_source invocation.request.sources.items ≡ files_of self) }
+        ensures steps { IfOk result (λ invocation. words_of invocation.request.steps.items ≡ self.steps ++ step_of self.step) }
+        ensures checks_steps { IfOk result (λ invocation. invocation.request.checks_steps ≡ self.checks_steps) }
+        ensures script { IfOk result (λ invocation. option_map string_bytes invocation.script ≡ script_of self.script (length self.sources == 0)) }
+        ensures output { IfOk result (λ invocation. option_map string_bytes invocation.output ≡ self.output) }
+        ensures refused { IfErr result (IsUnmade self) }
+    {
+        if let Next::Value(setting) = self.next {
+            return Err(Refusal::NoValue(setting));
+        }
+        if let Some((first, other)) = self.contradiction() {
+            return Err(Refusal::Contradictory(first, other));
+        }
+        let written = self.written();
+        let look = self.look();
+        let width = self.picture_width();
+        let separator = self.read_separator();
+        let to_separator = self.written_separator();
+        let header = self.header_rows();
+        let is_alone = self.is_without_files();
+        let Arguments {
+            alignments,
+            caption,
+            sources,
+            script,
+            output,
+            mut steps,
+            step,
+            checks_steps,
+            ..
+        } = self;
+        push_step(&mut steps, step)?;
+        let script = script_of(alloc, script, is_alone)?;
+        let alignments = listed(alloc, alignments);
+        let form = form_of(
+            written,
+            look,
+            width,
+            alignments,
+            to_separator,
+            header,
+            caption,
+        );
+        let sources = unread(alloc, sources, separator)?;
+        Ok(Invocation {
+            request: Request {
+                form,
+                sources,
+                steps,
+                checks_steps,
+            },
+            script,
+            output,
+        })
+    }
+
+    /// What a picture is drawn in.
+    fn look(&self) -> Drawn
+        ensures { result ≡ drawn_of self.now }
+    {
+        match self.drawn {
+            Some(drawn) => drawn,
+            None => Drawn::Style(Style::ascii()),
+        }
+    }
+
+    /// How many columns a picture has at most: those of the terminal only where it is written there.
+    fn picture_width(&self) -> Option<usize>
+        ensures { result ≡ width_of self.now }
+    {
+        if self.width.is_some() || self.output.is_some() {
+            return self.width;
+        }
+        self.columns
+    }
+
+    /// What parts the fields of the files that are read.
+    fn read_separator(&self) -> Separator
+        ensures { result ≡ separator_of self.now }
+    {
+        match self.separator {
+            Some(separator) => separator,
+            None => Separator::comma(),
+        }
+    }
+
+    /// What parts the fields of CSV that is written.
+    fn written_separator(&self) -> Separator
+        ensures { result ≡ to_separator_of self.now }
+    {
+        match self.to_separator {
+            Some(separator) => separator,
+            None => self.read_separator(),
+        }
+    }
+
+    /// How many rows are the header of a table of HTML.
+    fn header_rows(&self) -> usize
+        ensures { result ≡ unwrap_or self.now.header 0 }
+    {
+        self.header.unwrap_or(0)
+    }
+
+    /// Says whether there is no file of rows.
+    fn is_without_files(&self) -> bool
+        ensures { result ≡ (length self.now.sources == 0) }
+    {
+        self.sources.is_empty()
+    }
+
+    /// What the table is written as.
+    fn written(&self) -> Written
+        ensures { result ≡ written_of self.now }
+    {
+        match self.deciding() {
+            None => Written::Script,
+            Some(Setting::Form) => self.written.unwrap_or(Written::Script),
+            Some(Setting::ToSeparator) => Written::Csv,
+            Some(Setting::Header | Setting::Caption) => Written::Html,
+            Some(_) => Written::Picture,
+        }
+    }
+
+    /// The setting that says what the table is written as, if there is one.
+    fn deciding(&self) -> Option<Setting>
+        ensures { result ≡ deciding self.now }
+    {
+        SETTINGS_OF_FORMS
+            .iter()
+            .copied()
+            .find(|setting| self.is_set(*setting))
+    }
+
+    /// Two settings that contradict each other, if there are any.
+    fn contradiction(&self) -> Option<(Setting, Setting)>
+        ensures { result ≡ contradiction self.now }
+    {
+        let first = self.deciding()?;
+        let other = self.misfit(self.written())?;
+        Some((first, other))
+    }
+
+    /// The first setting that doesn't go with what is written so.
+    fn misfit(&self, written: Written) -> Option<Setting>
+        ensures { result ≡ find (λ s. is_set s self.now && not (goes_with written s)) settings_of_forms }
+    {
+        SETTINGS_OF_FORMS.iter().copied().find(|setting| self.is_set(*setting)
+            && !goes_with(written, *setting))
+    }
+}
+
+/// Says whether what is written so may be asked for with a setting.
+fn goes_with(written: Written, setting: Setting) -> bool
+    ensures { result ≡ goes_with written setting }
+{
+    match (written, setting) {
+        (_, Setting::Form) => true,
+        (Written::Script, _) => false,
+        (Written::Picture, _) => !matches!(
+            setting,
+            Setting::ToSeparator | Setting::Header | Setting::Caption
+        ),
+        (Written::Csv, _) => setting == Setting::ToSeparator,
+        (Written::Html | Written::HtmlPage, _) => says_html(setting),
+    }
+}
+
+/// Says whether a setting says how HTML is written.
+fn says_html(setting: Setting) -> bool
+    ensures { result ≡ says_html setting }
+{
+    matches!(
+        setting,
+        Setting::Header | Setting::Caption | Setting::Alignments
+    )
+}
+
+/// The form of what a table is written as and drawn in, how wide, how aligned, parted by what, and with how many rows of
+/// header under which caption.
+fn form_of(
+    written: Written,
+    look: Drawn,
+    width: Option<usize>,
+    alignments: Vec<Alignment>,
+    separator: Separator,
+    header: usize,
+    caption: Option<String>,
+) -> Form
+    ensures { IsForm (record {
+      how = written;
+      look = look;
+      width = width;
+      alignments = alignments.items;
+      separator = separator;
+      header = header;
+      caption = option_map string_bytes caption;
+    }) result }
+{
+    match written {
+        Written::Script => Form::Script,
+        Written::Csv => Form::Csv(separator),
+        Written::Html => Form::Html(HtmlPage {
+            header,
+            caption,
+            alignments,
+            is_whole: false,
+        }),
+        Written::HtmlPage => Form::Html(HtmlPage {
+            header,
+            caption,
+            alignments,
+            is_whole: true,
+        }),
+        Written::Picture => match (look, width) {
+            (Drawn::Markdown, _) => Form::Markdown(alignments),
+            (Drawn::Style(style), None) => Form::Picture(style, alignments),
+            (Drawn::Style(style), Some(width)) => Form::NarrowPicture(width, style, alignments),
+        },
+    }
+}
+
+/// A list, which is empty where there is none.
+fn listed(alloc: Global, alignments: Option<Vec<Alignment>>) -> Vec<Alignment>
+    ensures { result.items ≡ unwrap_or (option_map (λ list. list.items) alignments) [] }
+{
+    match alignments {
+        Some(alignments) => alignments,
+        None => Vec::new(alloc),
+    }
+}
+
+/// The file of the script: standard input where none is asked for, and there are no files of rows.
+fn script_of(
+    alloc: Global,
+    script: Option<String>,
+    is_alone: bool,
+) -> Result<Option<String>, AllocError>
+    ensures { IfOk result (λ file. option_map string_bytes file ≡ script_of (option_map string_bytes script) is_alone) }
+{
+    match script {
+        None if is_alone => Ok(Some(String::from_str(alloc, "-")?)),
+        _ => Ok(script),
+    }
+}
+
+/// The files of rows, of which no byte is read.
+fn unread(
+    alloc: Global,
+    files: Vec<(Kind, String)>,
+    separator: Separator,
+) -> Result<Vec<Source>, AllocError>
+    ensures { IfOk result (λ sources. map named_source sources.items ≡ unread_files separator (named_files files.items)) }
+{
+    let mut sources = Vec::new(alloc);
+    for (kind, name) in files {
+        sources.push(Source {
+            name,
+            format: format_of(kind, separator),
+            bytes: Vec::new(alloc),
+        })?;
+    }
+    Ok(sources)
+}
+
+/// How the rows of a file are read.
+fn format_of(kind: Kind, separator: Separator) -> Format
+    ensures { result ≡ format_of separator kind }
+{
+    match kind {
+        Kind::Csv => Format::Csv(separator),
+    }
+}
