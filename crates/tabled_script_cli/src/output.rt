@@ -1,5 +1,7 @@
 //! Where the table goes.
 
+ghost use Rattle.std.specs.Prelude.{◌≤◌, IfOk, length};
+
 use std::fs::{self, File};
 use std::io::{self, ErrorKind, Write};
 use tabled_script::{Failure, Refusal, tell_status};
@@ -71,7 +73,10 @@ impl<'a> Output<'a> {
         Ok(())
     }
 
-    fn write_some(&mut self, bytes: &[u8]) -> io::Result<usize> {
+    /// Writes some of the bytes, where the file is made now at the latest.
+    fn write_some(&mut self, bytes: &[u8]) -> io::Result<usize>
+        ensures { IfOk result (λ many. many ≤ length bytes.now) }
+    {
         self.make()?;
         match &mut self.place {
             Place::Made(_, file) => file.write(bytes),
