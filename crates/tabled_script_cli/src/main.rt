@@ -6,7 +6,7 @@ mod output;
 
 use input::{read_file, read_script};
 use output::Output;
-use std::env;
+use std::env::{self, Env, FillError};
 use std::io::{self, ErrorKind, IsTerminal, Stderr};
 use std::process::ExitCode;
 use tabled_script::{Arguments, Invocation, Refusal, answer, run_script, told_instead};
@@ -23,10 +23,10 @@ fn main(rt: HostRuntime) -> ExitCode {
 /// Does what the arguments ask for, and answers a status.
 fn run(rt: &HostRuntime, errors: &mut Stderr) -> Result<u8, Refusal> {
     let alloc = rt.alloc();
-    let words = words(rt)?;
-    if words.is_empty() {
+    if !has_arguments(rt) {
         return run_alone(rt);
     }
+    let words = words(rt)?;
     if let Some(telling) = told_instead(alloc, &words)? {
         let mut output = Output::standard(rt);
         let status = telling.tell(&mut output, errors);
@@ -73,6 +73,12 @@ fn answer_invocation(
     };
     let status = answer(rt.alloc(), &request, &script, &mut output, errors);
     Ok(output.close(status, errors))
+}
+
+/// Says whether there is an argument behind the program's name. This takes no memory, so that want of it is said as without
+/// arguments where there are none.
+fn has_arguments(rt: &HostRuntime) -> bool {
+    !matches!(rt.arg(1, &mut []), Err(FillError::NotPresent))
 }
 
 /// The arguments, without the program's name.
