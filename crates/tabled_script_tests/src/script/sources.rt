@@ -148,7 +148,9 @@ fn a_file_in_another_encoding_has_a_cure(rt: HostRuntime) -> Result<(), Fail> {
     let alloc = rt.alloc();
     let mut request = Request::new(alloc, Form::Script);
     request.sources = sources(alloc, &[("f", "a\n")])?;
-    request.sources[0].bytes.extend_from_slice(b"caf\xe9\n")?;
+    for source in &mut request.sources {
+        source.bytes.extend_from_slice(b"caf\xe9\n")?;
+    }
     let mut written = Vec::new(alloc);
     let mut errors = Vec::new(alloc);
     assert_eq!(rt; answer(alloc, &request, b"", &mut written, &mut errors), 2);
