@@ -5,10 +5,13 @@ use std::test::Fail;
 use tabled_csv::Separator;
 use tabled_script::{Form, Format, Request, Source, answer};
 
-/// Files of CSV, in order, each with its name.
-fn sources(alloc: Global, files: &[(&str, &str)]) -> Result<Vec<Source>, AllocError> {
+/// Files of CSV, in order, parted by bars: each has its name, an equals sign and its text.
+fn sources(alloc: Global, files: &str) -> Result<Vec<Source>, AllocError> {
     let mut sources = Vec::new(alloc);
-    for (name, text) in files {
+    for file in files.split('|') {
+        let Some((name, text)) = file.split_once('=') else {
+            continue;
+        };
         let mut bytes = Vec::new(alloc);
         bytes.extend_from_slice(text.as_bytes())?;
         sources.push(Source {
@@ -20,10 +23,13 @@ fn sources(alloc: Global, files: &[(&str, &str)]) -> Result<Vec<Source>, AllocEr
     Ok(sources)
 }
 
-/// Lists of words, each parted by blanks.
-fn steps(alloc: Global, lines: &[&str]) -> Result<Vec<Vec<String>>, AllocError> {
+/// Lists of words, each parted by blanks, with a semicolon between two.
+fn steps(alloc: Global, lines: &str) -> Result<Vec<Vec<String>>, AllocError> {
     let mut steps = Vec::new(alloc);
-    for line in lines {
+    if lines.is_empty() {
+        return Ok(steps);
+    }
+    for line in lines.split(';') {
         let mut words = Vec::new(alloc);
         for word in line.split(' ') {
             words.push(String::from_str(alloc, word)?)?;
@@ -36,89 +42,81 @@ fn steps(alloc: Global, lines: &[&str]) -> Result<Vec<Vec<String>>, AllocError> 
 #[test]
 fn rows_of_files_stand_one_behind_another(rt: HostRuntime) -> Result<(), Fail> {
     let alloc = rt.alloc();
-    let none: &[(&str, &str)] = &[];
     for &(files, script, lines, status, output, told) in &[
-        (none, "row\ta\n", &["set all x"] as &[&str], 0, "x\n", ""),
+        ("", "row\ta\n", "set all x", 0, "x\n", ""),
         // The first row stands once; a file without rows adds nothing.
         (
-            &[("a", "n,m\n1,2\n"), ("b", ""), ("c", "n,\"m\"\r\n3,4\n")] as &[(&str, &str)],
+            "a=n,m\n1,2\n|b=|c=n,\"m\"\r\n3,4\n",
             "row\tx\n",
-            &[],
+            "",
             0,
             "n,m\n1,2\n3,4\nx,\n",
             "",
         ),
+        ("a=|b=n\n1\n|c=n", "", "", 0, "n\n1\n", ""),
         (
-            &[("a", ""), ("b", "n\n1\n"), ("c", "n")],
-            "",
-            &[],
-            0,
-            "n\n1\n",
-            "",
-        ),
-        (
-            &[("a", "n\n"), ("b", "n\nn\n")],
+            "a=n\n|b=n\nn\n",
             "set\tcell\t1\t0\tb",
-            &["header h", "set cell 2 0 c"],
+            "header h;set cell 2 0 c",
             0,
             "h\nn\nc\n",
             "",
         ),
         // First rows that differ in a text, in the last text, and in their length.
         (
-            &[("a", "n\n"), ("b", "m\n")],
+            "a=n\n|b=m\n",
             "",
-            &[],
+            "",
             2,
             "",
             "tabled_script: b: its first row is not that of the files before it\n  'm' in place of 'n'\n",
         ),
         (
-            &[("a", "n,m\n"), ("b", "n,m\n"), ("c", "n,o\n")],
+            "a=n,m\n|b=n,m\n|c=n,o\n",
             "",
-            &[],
+            "",
             2,
             "",
             "tabled_script: c: its first row is not that of the files before it\n  'n' 'o' in place of 'n' 'm'\n",
         ),
         (
-            &[("a", "n,m\n"), ("b", "n\n")],
+            "a=n,m\n|b=n\n",
             "",
-            &[],
+            "",
             2,
             "",
             "tabled_script: b: its first row is not that of the files before it\n  'n' in place of 'n' 'm'\n",
         ),
         // A file is faulty; the one before it has another first row than it.
         (
-            &[("a", "n\n"), ("b", "m\n\"x")],
+            "a=n\n|b=m\n\"x",
             "spin",
-            &[],
+            "",
             2,
             "",
             "tabled_script: b: line 2: a quote is not closed\n",
         ),
         // Lines of the script and steps keep their numbers behind rows.
         (
-            &[("a", "n\n1\n")],
+            "a=n\n1\n",
             "row\tx\nspin\n",
-            &[],
+            "",
             2,
             "",
             "tabled_script: line 2: 'spin' is no word that can stand here; maybe span is meant (fault 1: --explain 1)\n  in: 'spin'\n",
         ),
         (
-            &[("a", "n\n1\n"), ("b", "n\n")],
+            "a=n\n1\n|b=n\n",
             "\nshape\t1\t1",
-            &[],
+            "",
             2,
             "",
             "tabled_script: line 2: 'shape' can't stand here: shape comes first, then rows, then spans, then steps (fault 6: --explain 6)\n  in: 'shape' '1' '1'\n",
         ),
         (
-            &[("a", "n\n1\n")],
+            "a=n\n1\n",
             "row\tx\nheader\th",
-            &["header g", "row x"],
+            "header g;row x",
             2,
             "",
             "tabled_script: step 2: 'row' can't stand here: shape comes first, then rows, then spans, then steps (fault 6: --explain 6)\n  in: 'row' 'x'\n",
@@ -147,7 +145,7 @@ fn rows_of_files_stand_one_behind_another(rt: HostRuntime) -> Result<(), Fail> {
 fn a_file_in_another_encoding_has_a_cure(rt: HostRuntime) -> Result<(), Fail> {
     let alloc = rt.alloc();
     let mut request = Request::new(alloc, Form::Script);
-    request.sources = sources(alloc, &[("f", "a\n")])?;
+    request.sources = sources(alloc, "f=a\n")?;
     for source in &mut request.sources {
         source.bytes.extend_from_slice(b"caf\xe9\n")?;
     }
