@@ -41,7 +41,7 @@ lay() {
 
 # The checksum of the checkout's sources, or of what is proved of them, too, as the wrapper takes it.
 sum_of() {
-    bash -c 'eval "$(sed "/top=/d; /^if /,\$d" "$1")"; top=$2; find_sources; declare -n folders=$3; checksum "$top" "${folders[@]}"' -- "$wrapper" "$checkout" "$1"
+    bash -c 'name=tabled_script_cli; top=$1; . "$top/.ci/sources"; find_sources; declare -n folders=$2; checksum "$top" "${folders[@]}"' -- "$checkout" "$1"
 }
 
 # Closes with how many passed and failed.
