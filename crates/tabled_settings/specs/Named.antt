@@ -1,5 +1,5 @@
 -- Rows and columns by names.
-use Rattle.std.specs.Prelude.{ℕ, ◌-◌, ◌==◌, ◌||◌, if◌then◌else◌, Bool, false, true, List, [], ◌∷◌, Option, Some, min, nat_eq, nat_lt, not}
+use Rattle.std.specs.Prelude.{ℕ, ◌-◌, ◌==◌, ◌||◌, if◌then◌else◌, Bool, false, true, List, [], ◌∷◌, Option, Some, min, nat_eq, nat_lt, not, take}
 use Rattle.std.specs.Cmp.Lexicographic.{pointwise}
 use Rattle.std.specs.List.{filter, flat_map, list_any, range_with_len}
 use Rattle.std.specs.String.{string_bytes}
@@ -56,8 +56,8 @@ text_passes (test.IsNot other) text = not (pointwise nat_eq text (string_bytes o
 text_passes (test.Compares how number) text = are_in_order how (decimal text) (decimal (string_bytes number))
 
 -- in one of some columns a row has a text that passes a test
-abbrev pub row_passes : TextTest → List ℕ → Grid (List ℕ) → ℕ → Bool
-row_passes test columns g i = list_any (λ (j : ℕ). text_passes test (text_at g (place i j))) columns
+abbrev pub row_passes : (List ℕ → Bool) → List ℕ → Grid (List ℕ) → ℕ → Bool
+row_passes passes columns g i = list_any (λ (j : ℕ). passes (text_at g (place i j))) columns
 
 -- the columns that a name names, in a table of texts
 abbrev pub columns_named : Grid (List ℕ) → ColumnName → List ℕ
@@ -65,11 +65,19 @@ columns_named g (column.At index) = counted index g.columns
 columns_named g (column.Between from to) = sliced from to g.columns
 columns_named g (column.Text name) = columns_with (string_bytes name) g
 
--- the rows that a name names: those with a text that passes a test stand below the first row
+-- the first column with a text in the first row, if there is one
+abbrev pub first_with : List ℕ → Grid (List ℕ) → List ℕ
+first_with name g = take 1 (columns_with name g)
+
+-- the rows below the first that have a text that passes a test, in the first column of a name
+abbrev pub rows_where : List ℕ → (List ℕ → Bool) → Grid (List ℕ) → List ℕ
+rows_where name passes g = filter (row_passes passes (first_with name g) g) (range_with_len 1 (g.rows - 1))
+
+-- the rows that a name names
 abbrev pub rows_named : Grid (List ℕ) → RowName → List ℕ
 rows_named g (row.At index) = counted index g.rows
 rows_named g (row.Between from to) = sliced from to g.rows
-rows_named g (row.Where name test) = filter (row_passes test (columns_with (string_bytes name) g) g) (range_with_len 1 (g.rows - 1))
+rows_named g (row.Where name test) = rows_where (string_bytes name) (text_passes test) g
 
 -- the columns of names, of one behind another
 abbrev pub all_columns_named : List ColumnName → Grid (List ℕ) → List ℕ

@@ -5,7 +5,7 @@ ghost use Rattle.std.specs.List.{All, filter, range_with_len};
 ghost use Rattle.std.specs.String.{string_bytes};
 ghost use Rattle.tabled_grid.specs.Grid.{map_grid};
 ghost use Rattle.tabled_select.specs.Locators.{columns_with};
-ghost use Rattle.tabled_settings.specs.Named.{all_columns_named, all_rows_named, columns_named, counted, cut_index, row_passes, rows_named, sliced};
+ghost use Rattle.tabled_settings.specs.Named.{all_columns_named, all_rows_named, columns_named, counted, cut_index, row_passes, rows_named, sliced, text_passes};
 
 use crate::text_test::TextTest;
 use std::alloc::{AllocError, Global};
@@ -36,7 +36,7 @@ pub enum RowName {
     At(Offset),
     /// Those from one up to another, cut at the ends of the table.
     Between(Offset, Offset),
-    /// Those below the first row with a text that passes a test, in a column with this text in the first row.
+    /// Those below the first row with a text that passes a test, in the first column with this text in the first row.
     Where(String, TextTest),
 }
 
@@ -75,7 +75,9 @@ impl Model for RowNames {
 }
 
 impl ColumnNames {
-    ghost use Rattle.std.specs.Prelude.{◌≡◌};
+    ghost use Rattle.std.specs.Prelude.{◌≡◌, IfOk};
+    ghost use Rattle.tabled_grid.specs.Grid.{map_grid};
+    ghost use Rattle.tabled_settings.specs.Named.{all_columns_named};
 
     /// Of this project.
     pub fn new(names: Vec<ColumnName>) -> Self
@@ -83,16 +85,46 @@ impl ColumnNames {
     {
         ColumnNames { names }
     }
+
+    /// The columns of a store that are named. One stands as often as it is named, and one past the table, too. It may be
+    /// refused for memory.
+    ///
+    /// Of this project.
+    pub fn find<R>(&self, alloc: Global, records: &R) -> Result<Vec<usize>, AllocError>
+    where
+        R: Records + ExactRecords + PeekableRecords,
+        R::Cell: CellText,
+        requires { R.is_well_formed records.now }
+        ensures { IfOk result (λ found. found.items ≡ all_columns_named self.now (map_grid R.Cell.text_of (R.grid records.now))) }
+    {
+        find_columns(alloc, &self.names, records)
+    }
 }
 
 impl RowNames {
-    ghost use Rattle.std.specs.Prelude.{◌≡◌};
+    ghost use Rattle.std.specs.Prelude.{◌≡◌, IfOk};
+    ghost use Rattle.tabled_grid.specs.Grid.{map_grid};
+    ghost use Rattle.tabled_settings.specs.Named.{all_rows_named};
 
     /// Of this project.
     pub fn new(names: Vec<RowName>) -> Self
         ensures { result ≡ names.items }
     {
         RowNames { names }
+    }
+
+    /// The rows of a store that are named. One stands as often as it is named, and one past the table, too. It may be
+    /// refused for memory.
+    ///
+    /// Of this project.
+    pub fn find<R>(&self, alloc: Global, records: &R) -> Result<Vec<usize>, AllocError>
+    where
+        R: Records + ExactRecords + PeekableRecords,
+        R::Cell: CellText,
+        requires { R.is_well_formed records.now }
+        ensures { IfOk result (λ found. found.items ≡ all_rows_named self.now (map_grid R.Cell.text_of (R.grid records.now))) }
+    {
+        find_rows(alloc, &self.names, records)
     }
 }
 
@@ -205,7 +237,8 @@ where
         RowName::At(index) => add_counted(*index, count, found),
         RowName::Between(from, to) => add_sliced(*from, *to, count, found),
         RowName::Where(title, test) => {
-            let titled = columns_titled(alloc, title, records)?;
+            let mut titled = columns_titled(alloc, title, records)?;
+            titled.truncate(1);
             add_passing(records, &titled, test, found)
         }
     }
@@ -278,7 +311,7 @@ where
     R::Cell: CellText,
     requires well { R.is_well_formed records.now }
     requires inside { All (λ (j : ℕ). j < (R.grid records.now).columns) columns.now }
-    ensures { OnOk result (found.new.items ≡ found.old.items ++ filter (row_passes test.now columns.now (map_grid R.Cell.text_of (R.grid records.now))) (range_with_len 1 ((R.grid records.now).rows - 1))) }
+    ensures { OnOk result (found.new.items ≡ found.old.items ++ filter (row_passes (text_passes test.now) columns.now (map_grid R.Cell.text_of (R.grid records.now))) (range_with_len 1 ((R.grid records.now).rows - 1))) }
 {
     for row in 1..records.count_rows() {
         if row_passes(records, row, columns, test) {
@@ -296,7 +329,7 @@ where
     requires well { R.is_well_formed records.now }
     requires row { row < (R.grid records.now).rows }
     requires inside { All (λ (j : ℕ). j < (R.grid records.now).columns) columns.now }
-    ensures { result ≡ row_passes test.now columns.now (map_grid R.Cell.text_of (R.grid records.now)) row }
+    ensures { result ≡ row_passes (text_passes test.now) columns.now (map_grid R.Cell.text_of (R.grid records.now)) row }
 {
     for &column in columns {
         if test.passes(records.get_text(Position::new(row, column))) {

@@ -1,11 +1,11 @@
 use Rattle.tabled_settings.proofs.Common.{[], ◌++◌, ◌+◌, ◌-◌, ◌∙◌, ◌∷◌, ◌≡◌, ◌≤◌, List, ap, append-nil, append_assoc, arith, false, filter, map_grid, range_with_len, sym, true, ℕ}
 use Rattle.tabled_settings.proofs.NamedLines.{filter_one_more}
-use Rattle.tabled_settings.specs.Named.{row_passes}
+use Rattle.tabled_settings.specs.Named.{row_passes, text_passes}
 use Rattle.tabled_settings.proofs.line_names.add_passing.Goals as goal
 
 pub loop-row-preserved : goal.loop-row-preserved
 loop-row-preserved g c =
-    let test = row_passes c.args.test.now c.args.columns.now (map_grid g.R.Cell.CellText.text_of (g.R.GridStore.grid c.args.records.now)) in
+    let test = row_passes (text_passes c.args.test.now) c.args.columns.now (map_grid g.R.Cell.CellText.text_of (g.R.GridStore.grid c.args.records.now)) in
     let i = c.loop-row.row in
     let u = c.loop-row.invariant in
     let old = c.args.found.now.items in
@@ -26,7 +26,7 @@ loop-row-preserved g c =
 
 pub returns : goal.returns
 returns g c =
-    let test = row_passes c.args.test.now c.args.columns.now (map_grid g.R.Cell.CellText.text_of (g.R.GridStore.grid c.args.records.now)) in
+    let test = row_passes (text_passes c.args.test.now) c.args.columns.now (map_grid g.R.Cell.CellText.text_of (g.R.GridStore.grid c.args.records.now)) in
     let u = c.loop-row.invariant in
     let all : c.loop-row.row - 1 ≡ (g.R.GridStore.grid c.args.records.now).rows - 1 = omega (arith, u.few, c.loop-row-test.false, c.count_rows-row-end.ensures.rows) in
     u.items ∙ ap (λ (n : ℕ). c.args.found.now.items ++ filter test (range_with_len 1 n)) all
