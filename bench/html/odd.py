@@ -57,6 +57,9 @@ class Maker:
             attributes.append(self.attribute("rowspan", self.random.choice(["0", "0", "1", "2", "3", "002", "65535"])))
         if self.random.random() < 0.2:
             attributes.append(self.attribute("class", self.random.choice(["", "a b", "<'>", "é", "a\r\nb"])))
+        if attributes and self.random.random() < 0.1:
+            # One that stands twice: the first one counts.
+            attributes.append(self.attribute(self.random.choice(["colspan", "rowspan", "class"]), self.random.choice(["1", "2", "3"])))
         self.random.shuffle(attributes)
         return self.tag(name, attributes) + self.text() + self.end(name)
 

@@ -13,7 +13,7 @@ use Rattle.tabled_html_reading.specs.Building.{are_spans, is_number_if}
 use Rattle.tabled_html_reading.specs.Characters.{is_plain}
 use Rattle.tabled_html_reading.specs.Elements.{Attribute, number_of, value_of}
 use Rattle.tabled_html_reading.specs.Forming.{colspan_by, colspan_of, rowspan_by, rowspan_of}
-use Rattle.tabled_html_reading.specs.Showing.{ArePlain, IsPlain}
+use Rattle.tabled_html_reading.specs.Showing.{ArePlain, IsPlain, are_apart}
 
 -- ---- values
 
@@ -125,7 +125,32 @@ module _ (h : Bool) (a : Option Alignment) (size : Size) (narrow : size.width �
       all-append IsPlain _ _ (colspan-plain (nat_lt 1 size.width))
       (all-append IsPlain _ _ (rowspan-plain (nat_lt 1 size.height)) (all-append IsPlain _ _ (scope-plain h) (style-plain a)))
 
--- so is the class of a table
+-- no two of them have a name
+pub cell-apart : (h : Bool) (a : Option Alignment) (size : Size) → are_apart (cell_attributes h a size) ≡ true
+cell-apart h a size = of-kinds (nat_lt 1 size.width) (nat_lt 1 size.height) h a
+  where
+    spans : Bool → Bool → List Attribute → List Attribute
+    spans wide high others = cond wide (record { name = codes "colspan"; value = decimal size.width } ∷ []) [] ++ (cond high (record { name = codes "rowspan"; value = decimal size.height } ∷ []) [] ++ others)
+
+    of-kinds : (wide high h : Bool) (a : Option Alignment) → are_apart (spans wide high (manner h a)) ≡ true
+    of-kinds true true true None = refl
+    of-kinds true true true (Some _) = refl
+    of-kinds true true false None = refl
+    of-kinds true true false (Some _) = refl
+    of-kinds true false true None = refl
+    of-kinds true false true (Some _) = refl
+    of-kinds true false false None = refl
+    of-kinds true false false (Some _) = refl
+    of-kinds false true true None = refl
+    of-kinds false true true (Some _) = refl
+    of-kinds false true false None = refl
+    of-kinds false true false (Some _) = refl
+    of-kinds false false true None = refl
+    of-kinds false false true (Some _) = refl
+    of-kinds false false false None = refl
+    of-kinds false false false (Some _) = refl
+
+-- the class of a table is plain, and alone
 pub class-plain : (class : Option (List ℕ)) → ArePlain (class_attribute class)
 class-plain None = tt
 class-plain (Some class) = of-class (list_all is_plain class) refl
@@ -133,3 +158,11 @@ class-plain (Some class) = of-class (list_all is_plain class) refl
     of-class : (b : Bool) → list_all is_plain class ≡ b → ArePlain (cond b (record { name = codes "class"; value = class } ∷ []) [])
     of-class true plain = (record { first = 99; others = codes "lass"; name = refl; letters = refl; value = plain }, tt)
     of-class false plain = tt
+
+pub class-apart : (class : Option (List ℕ)) → are_apart (class_attribute class) ≡ true
+class-apart None = refl
+class-apart (Some class) = of-class (list_all is_plain class)
+  where
+    of-class : (b : Bool) → are_apart (cond b (record { name = codes "class"; value = class } ∷ []) []) ≡ true
+    of-class true = refl
+    of-class false = refl

@@ -13,7 +13,7 @@ use Rattle.tabled_grid.specs.declared.config.position.Position.{Position}
 use Rattle.tabled_grid.specs.declared.config.rectangle.Rectangle.{Rectangle}
 use Rattle.tabled_grid.specs.declared.config.size.Size.{Size}
 use Rattle.tabled_grid.specs.declared.records.axis.Axis.TheVariants.{Rows}
-use Rattle.tabled_html.proofs.Attributes.{cell-plain, class-plain, cell-spans, colspan-is, rowspan-is}
+use Rattle.tabled_html.proofs.Attributes.{cell-apart, cell-plain, cell-spans, class-apart, class-plain, colspan-is, rowspan-is}
 use Rattle.tabled_grid.proofs.Owners.{LieWell, Owned, fits-well, member-owner, owned, owner-begins, owner-holds, owner-lies, owner-self, owner-shared}
 use Rattle.tabled_grid.proofs.Owners.Owned.{alone, held}
 use Rattle.tabled_html.proofs.Within.{written-fits, written-within}
@@ -191,13 +191,13 @@ module _ (m : SpanMap) (limits : AreWithinLimits m) (look : Look) where
     where
       of-place : (b : Bool) → AllByRecursion IsWritable (cond b [] (element_at g look p (size_at m p) ∷ []))
       of-place true = tt
-      of-place false = let few = size-few p in (record { plain = cell-plain _ _ (size_at m p) few.0 few.1; spans = cell-spans _ _ (size_at m p) few.0 few.1 }, tt)
+      of-place false = let few = size-few p in (record { plain = cell-plain _ _ (size_at m p) few.0 few.1; apart = cell-apart _ _ (size_at m p); spans = cell-spans _ _ (size_at m p) few.0 few.1 }, tt)
 
   rows-writable : (g : Grid (List ℕ)) (first count : ℕ) → AreWritable (rows_of g m look first count)
   rows-writable g first count = all-series (AllByRecursion IsWritable) count (λ k. row_of g m look (first + k) ∷ []) (λ k. (all-series IsWritable g.columns (λ j. begun_at g m look (place (first + k) j)) (λ j. begun-writable g (place (first + k) j)), tt))
 
   table-writable : (g : Grid (List ℕ)) → IsTableWritable (table g m look)
-  table-writable g = record { attributes = class-plain look.class; groups = of-head (has_head g.rows m look.header) }
+  table-writable g = record { attributes = class-plain look.class; apart = class-apart look.class; groups = of-head (has_head g.rows m look.header) }
     where
       of-head : (b : Bool) → AllByRecursion (λ (x : Group). AreWritable x.rows) (cond b (group true (rows_of g m look 0 look.header) ∷ group false (rows_of g m look look.header (g.rows - look.header)) ∷ []) (group false (rows_of g m look 0 g.rows) ∷ []))
       of-head true = (rows-writable g 0 look.header, (rows-writable g look.header (g.rows - look.header), tt))

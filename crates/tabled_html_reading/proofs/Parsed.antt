@@ -11,7 +11,7 @@ use Rattle.tabled_html_reading.specs.Building.Mode.{Behind, InBody, InCaption, I
 use Rattle.tabled_html_reading.specs.Bytes.{attributes_bytes, caption_bytes, cell_bytes, cell_end, cell_start, group_bytes, group_end, group_start, row_bytes, table_bytes}
 use Rattle.tabled_html_reading.specs.Elements.{Attribute, Element, Group, Table}
 use Rattle.tabled_html_reading.specs.Escaping.{escaped, shown}
-use Rattle.tabled_html_reading.specs.Showing.{ArePlain, AreWritable, IsTableWritable, IsWritable, shown_element, shown_group, shown_table}
+use Rattle.tabled_html_reading.specs.Showing.{ArePlain, AreWritable, are_apart, IsTableWritable, IsWritable, shown_element, shown_group, shown_table}
 use Rattle.tabled_html_reading.specs.Tokenizing.{Token, characters, emit, tag, tokens, tokens_from}
 use Rattle.tabled_html_reading.specs.Tokenizing.State.{Data}
 use Rattle.tabled_html_reading.specs.Tokenizing.Token.{Character, Marked}
@@ -67,9 +67,9 @@ read-all P bytes ts each (x ∷ xs) all bs = read-then (bytes x) (flat_map bytes
 read-text : (text : List ℕ) → ReadsAs (escaped text) (characters (shown text))
 read-text text bs = read-escaped text bs
 
-read-start : (is_header : Bool) (attributes : List Attribute) → ArePlain attributes → ReadsAs (cell_start is_header ++ attributes_bytes attributes) (start (cell_name is_header) attributes ∷ [])
-read-start true attributes plain bs = read-attributes false (codes "th") attributes bs plain
-read-start false attributes plain bs = read-attributes false (codes "td") attributes bs plain
+read-start : (is_header : Bool) (attributes : List Attribute) → ArePlain attributes → are_apart attributes ≡ true → ReadsAs (cell_start is_header ++ attributes_bytes attributes) (start (cell_name is_header) attributes ∷ [])
+read-start true attributes plain apart bs = read-attributes false (codes "th") attributes bs plain apart
+read-start false attributes plain apart bs = read-attributes false (codes "td") attributes bs plain apart
 
 read-end : (is_header : Bool) → ReadsAs (cell_end is_header) (end (cell_name is_header) ∷ [])
 read-end true bs = refl
@@ -79,7 +79,7 @@ read-cell : (e : Element) → IsWritable e → ReadsAs (cell_bytes e) (cell_toke
 read-cell e well bs =
     ap (λ xs. tokens_from (xs ++ bs) Data) (sym (append_assoc (cell_start e.is_header) (attributes_bytes e.attributes) (escaped e.text ++ cell_end e.is_header)))
     ∙ read-then (cell_start e.is_header ++ attributes_bytes e.attributes) (escaped e.text ++ cell_end e.is_header) (start (cell_name e.is_header) e.attributes ∷ []) (characters (shown e.text) ++ (end (cell_name e.is_header) ∷ []))
-    (read-start e.is_header e.attributes well.plain)
+    (read-start e.is_header e.attributes well.plain well.apart)
     (read-then (escaped e.text) (cell_end e.is_header) (characters (shown e.text)) (end (cell_name e.is_header) ∷ []) (read-text e.text) (read-end e.is_header)) bs
 
 read-row-start : ReadsAs (codes "<tr>") (start (codes "tr") [] ∷ [])
@@ -120,8 +120,8 @@ read-caption (Some text) bs =
     read-then (codes "<caption>") (escaped text ++ codes "</caption>\n") (start (codes "caption") [] ∷ []) (characters (shown text) ++ last) read-caption-start
     (read-then (escaped text) (codes "</caption>\n") (characters (shown text)) last (read-text text) read-caption-end) bs
 
-read-table-start : (attributes : List Attribute) → ArePlain attributes → ReadsAs (codes "<table" ++ attributes_bytes attributes) (start (codes "table") attributes ∷ [])
-read-table-start attributes plain bs = read-attributes false (codes "table") attributes bs plain
+read-table-start : (attributes : List Attribute) → ArePlain attributes → are_apart attributes ≡ true → ReadsAs (codes "<table" ++ attributes_bytes attributes) (start (codes "table") attributes ∷ [])
+read-table-start attributes plain apart bs = read-attributes false (codes "table") attributes bs plain apart
 
 read-feed : ReadsAs (10 ∷ []) (Character 10 ∷ [])
 read-feed bs = refl
@@ -137,7 +137,7 @@ read-table t well =
     let behind : ReadsAs (c ++ (g ++ codes "</table>\n")) (caption_tokens t.caption ++ (flat_map group_tokens t.groups ++ last)) =
     read-then c (g ++ codes "</table>\n") (caption_tokens t.caption) (flat_map group_tokens t.groups ++ last) (read-caption t.caption)
     (read-then g (codes "</table>\n") (flat_map group_tokens t.groups) last (read-all (λ (g : Group). AreWritable g.rows) group_bytes group_tokens read-group t.groups well.groups) read-table-end) in
-    let all = read-then (codes "<table" ++ attributes_bytes t.attributes) (10 ∷ (c ++ (g ++ codes "</table>\n"))) (start (codes "table") t.attributes ∷ []) (Character 10 ∷ (caption_tokens t.caption ++ (flat_map group_tokens t.groups ++ last))) (read-table-start t.attributes well.attributes)
+    let all = read-then (codes "<table" ++ attributes_bytes t.attributes) (10 ∷ (c ++ (g ++ codes "</table>\n"))) (start (codes "table") t.attributes ∷ []) (Character 10 ∷ (caption_tokens t.caption ++ (flat_map group_tokens t.groups ++ last))) (read-table-start t.attributes well.attributes well.apart)
     (read-then (10 ∷ []) (c ++ (g ++ codes "</table>\n")) (Character 10 ∷ []) (caption_tokens t.caption ++ (flat_map group_tokens t.groups ++ last)) read-feed behind) [] in
     ap (λ xs. tokens_from xs Data) (sym (append-nil (table_bytes t)) ∙ ap (λ xs. xs ++ []) (sym (append_assoc (codes "<table") (attributes_bytes t.attributes) (10 ∷ (c ++ (g ++ codes "</table>\n"))))))
     ∙ all

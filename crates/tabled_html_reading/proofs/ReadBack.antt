@@ -5,13 +5,14 @@ use Rattle.std.proofs.lemmas.Fmt.{decimal_by_steps}
 use Rattle.std.proofs.lemmas.List.{map-append}
 use Rattle.std.proofs.lemmas.List.Folds.{list_all-append}
 use Rattle.std.specs.List.{AllByRecursion, flat_map, list_all}
+use Rattle.std.specs.Option.{is_some}
 use Rattle.std.proofs.lemmas.Bool.Decides.{nat_tests}
 use Rattle.std.specs.Prelude.{codes}
 use Rattle.tabled_html_reading.specs.Building.{read_text, text_in, text_of}
 use Rattle.tabled_html_reading.specs.Characters.{is_digit, is_letter, is_plain, is_small, is_within, lowercase}
-use Rattle.tabled_html_reading.specs.Elements.{Attribute, number, number_behind}
+use Rattle.tabled_html_reading.specs.Elements.{Attribute, number, number_behind, value_of}
 use Rattle.tabled_html_reading.specs.Bytes.{attribute_bytes, attributes_bytes}
-use Rattle.tabled_html_reading.specs.Showing.{ArePlain, IsPlain}
+use Rattle.tabled_html_reading.specs.Showing.{ArePlain, IsPlain, are_apart, are_apart_behind}
 use Rattle.tabled_html_reading.specs.Escaping.{escaped, escaped_byte, shown, shown_byte}
 use Rattle.tabled_html_reading.specs.Tokenizing.{Tag, Token, after, characters, emit, in_data, in_state, normalized, tag, tokens_from, with_attribute}
 use Rattle.tabled_html_reading.specs.Tokenizing.State.{AfterAttributeValue, AttributeName, AttributeValue, BeforeAttributeName, Data, TagName}
@@ -284,23 +285,33 @@ with_attributes t attributes = record t { attributes = t.attributes ++ attribute
 pub attribute-first : (a : Attribute) (attributes : List Attribute) (bs : List ℕ) → attributes_bytes (a ∷ attributes) ++ bs ≡ attribute_bytes a ++ (attributes_bytes attributes ++ bs)
 attribute-first a attributes bs = ap (λ xs. xs ++ bs) (append_assoc (attribute_bytes a) (flat_map attribute_bytes attributes) (62 ∷ [])) ∙ append_assoc (attribute_bytes a) (attributes_bytes attributes) bs
 
+-- an attribute of a new name
+attribute-added : (t : Tag) (a : Attribute) → not (is_some (value_of a.name t.attributes)) ≡ true → with_attribute t a.name a.value ≡ with_attributes t (a ∷ [])
+attribute-added t a new = of-test (is_some (value_of a.name t.attributes)) new
+  where
+    of-test : (b : Bool) → not b ≡ true → cond b t (with_attributes t (a ∷ [])) ≡ with_attributes t (a ∷ [])
+    of-test true h = cc
+    of-test false h = refl
+
 -- attributes and the end of a tag, behind another attribute
-read-others : (t : Tag) (attributes : List Attribute) (bs : List ℕ) → ArePlain attributes → tokens_from (attributes_bytes attributes ++ bs) (AfterAttributeValue t) ≡ emit (Marked (with_attributes t attributes) ∷ []) (tokens_from bs Data)
-read-others t [] bs plain = ap (λ xs. emit (Marked (record t { attributes = xs }) ∷ []) (tokens_from bs Data)) (sym (append-nil t.attributes))
-read-others t (a ∷ attributes) bs plain =
+read-others : (t : Tag) (attributes : List Attribute) (bs : List ℕ) → ArePlain attributes → are_apart_behind t.attributes attributes ≡ true → tokens_from (attributes_bytes attributes ++ bs) (AfterAttributeValue t) ≡ emit (Marked (with_attributes t attributes) ∷ []) (tokens_from bs Data)
+read-others t [] bs plain apart = ap (λ xs. emit (Marked (record t { attributes = xs }) ∷ []) (tokens_from bs Data)) (sym (append-nil t.attributes))
+read-others t (a ∷ attributes) bs plain apart =
+    let parts = and_parts _ _ apart in
     ap (λ xs. tokens_from xs (AfterAttributeValue t)) (attribute-first a attributes bs)
     ∙ read-attribute t a (attributes_bytes attributes ++ bs) plain.0
-    ∙ read-others (with_attribute t a.name a.value) attributes bs plain.1
+    ∙ ap (λ more. tokens_from (attributes_bytes attributes ++ bs) (AfterAttributeValue more)) (attribute-added t a parts.0)
+    ∙ read-others (with_attributes t (a ∷ [])) attributes bs plain.1 parts.1
     ∙ ap (λ xs. emit (Marked (record t { attributes = xs }) ∷ []) (tokens_from bs Data)) (append_assoc t.attributes (a ∷ []) attributes)
 
 -- attributes and the end of a tag, behind its name
-pub read-attributes : (is_end : Bool) (name : List ℕ) (attributes : List Attribute) (bs : List ℕ) → ArePlain attributes → tokens_from (attributes_bytes attributes ++ bs) (TagName (tag is_end name)) ≡ emit (Marked (with_attributes (tag is_end name) attributes) ∷ []) (tokens_from bs Data)
-read-attributes is_end name [] bs plain = refl
-read-attributes is_end name (a ∷ attributes) bs plain =
+pub read-attributes : (is_end : Bool) (name : List ℕ) (attributes : List Attribute) (bs : List ℕ) → ArePlain attributes → are_apart attributes ≡ true → tokens_from (attributes_bytes attributes ++ bs) (TagName (tag is_end name)) ≡ emit (Marked (with_attributes (tag is_end name) attributes) ∷ []) (tokens_from bs Data)
+read-attributes is_end name [] bs plain apart = refl
+read-attributes is_end name (a ∷ attributes) bs plain apart =
     let t = tag is_end name in
     ap (λ xs. tokens_from xs (TagName t)) (attribute-first a attributes bs)
     ∙ read-attribute t a (attributes_bytes attributes ++ bs) plain.0
-    ∙ read-others (with_attribute t a.name a.value) attributes bs plain.1
+    ∙ read-others (with_attribute t a.name a.value) attributes bs plain.1 apart
 
 -- ---- no carriage return is written in them
 

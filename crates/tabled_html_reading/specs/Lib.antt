@@ -6,5 +6,6 @@ pub mod Elements
 pub mod Escaping
 pub mod Examples
 pub mod Forming
+pub mod OddTables
 pub mod Showing
 pub mod Tokenizing

@@ -1,10 +1,10 @@
 -- Elements as they are shown, and which of them are written so that they are read again.
-use Rattle.std.specs.Prelude.{◌≡◌, ◌∷◌, ℕ, List, map, true}
+use Rattle.std.specs.Prelude.{◌≡◌, ◌&&◌, ◌++◌, ℕ, Bool, List, [], ◌∷◌, map, not, true}
 use Rattle.std.specs.List.{AllByRecursion, list_all}
-use Rattle.std.specs.Option.{option_map}
+use Rattle.std.specs.Option.{is_some, option_map}
 use Rattle.tabled_html_reading.specs.Building.{are_spans}
 use Rattle.tabled_html_reading.specs.Characters.{is_plain, is_small}
-use Rattle.tabled_html_reading.specs.Elements.{Attribute, Element, Group, Table}
+use Rattle.tabled_html_reading.specs.Elements.{Attribute, Element, Group, Table, value_of}
 use Rattle.tabled_html_reading.specs.Escaping.{shown}
 
 -- the element with its text as it is shown
@@ -31,16 +31,27 @@ pub record IsPlain (a : Attribute) : Type 0 where
 abbrev pub ArePlain : List Attribute → Type 0
 ArePlain attributes = AllByRecursion IsPlain attributes
 
--- the attributes of a cell are plain, and numbers say its spans
+-- each attribute behind some others has a name that none before it has
+abbrev pub are_apart_behind : List Attribute → List Attribute → Bool
+are_apart_behind seen [] = true
+are_apart_behind seen (a ∷ attributes) = not (is_some (value_of a.name seen)) && are_apart_behind (seen ++ (a ∷ [])) attributes
+
+-- no two attributes have a name
+abbrev pub are_apart : List Attribute → Bool
+are_apart attributes = are_apart_behind [] attributes
+
+-- the attributes of a cell are plain, no two have a name, and numbers say its spans
 pub record IsWritable (e : Element) : Type 0 where
   pub plain : ArePlain e.attributes
+  pub apart : are_apart e.attributes ≡ true
   pub spans : are_spans e.attributes ≡ true
 
 -- so are those of all cells of some rows
 abbrev pub AreWritable : List (List Element) → Type 0
 AreWritable rows = AllByRecursion (λ cells. AllByRecursion IsWritable cells) rows
 
--- so are those of all cells of a table, and its own are plain
+-- so are those of all cells of a table, and its own are plain, and no two of these have a name
 pub record IsTableWritable (t : Table) : Type 0 where
   pub attributes : ArePlain t.attributes
+  pub apart : are_apart t.attributes ≡ true
   pub groups : AllByRecursion (λ (g : Group). AreWritable g.rows) t.groups

@@ -8,6 +8,7 @@ ghost use Rattle.tabled_html_reading.specs.Elements.{Element, Table};
 ghost use Rattle.tabled_html_reading.specs.Escaping.{HasNoNul, escaped, shown};
 ghost use Rattle.tabled_html_reading.specs.Examples.{AreFormed, AreRead};
 ghost use Rattle.tabled_html_reading.specs.Forming.{forming_a_table};
+ghost use Rattle.tabled_html_reading.specs.OddTables.{AreOddFormed, AreOddRead};
 ghost use Rattle.tabled_html_reading.specs.Showing.{IsTableWritable, shown_table};
 
 /// What is read of an escaped text is the text, in which U+FFFD stands for each U+0000.
@@ -26,6 +27,13 @@ pub fn rows_of_a_tiling_form_it()
 /// The bytes of a table's elements are read as these elements, with their texts as they are shown.
 pub fn written_elements_are_read_back()
     ensures { (t : Table) → IsTableWritable t → parsed (table_bytes t) ≡ Some (shown_table t) }
+{}
+
+/// Odd tables are read as other readers do, each by an equation that computing proves: bytes as html5lib reads them, and
+/// elements with spans of all kinds as a browser lays them out.
+pub fn odd_tables_are_read_as_others_do()
+    ensures read { AreOddRead }
+    ensures formed { AreOddFormed }
 {}
 
 /// What the definitions say of some elements and bytes, errors among them.
