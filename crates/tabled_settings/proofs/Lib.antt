@@ -1,4 +1,5 @@
 pub mod AlongLines
+pub mod Beginnings
 pub mod Common
 pub mod Dropped
 pub mod Duplicated
@@ -13,7 +14,9 @@ pub mod Mapped
 pub mod MirroredParts
 pub mod MirroredSpans
 pub mod NamedLines
+pub mod NarrowLines
 pub mod OneOrder
+pub mod Parted
 pub mod PiecePlaces
 pub mod PieceReads
 pub mod PiecesDone
@@ -35,6 +38,7 @@ pub mod SwapsFound
 pub mod TakenInOrder
 pub mod TextsKept
 pub mod ThereAndBack
+pub mod Truncated
 pub mod TurnedRectangles
 pub mod TurnedTwice
 pub mod Turns

@@ -1,5 +1,9 @@
 -- Answers that are made of the old text alone.
 use Rattle.tabled_settings.proofs.Common.{[], ◌∙◌, ◌∷◌, ◌≡◌, ◌⊎◌, AnswersInTurn, Asking, Bool, Entity, FirstWrites, Grid, List, Option, Position, RewritesAt, RewritesUntil, Write, ap, ap₂, charset_writes, false, false≢true, inl, inr, inside, is_set, length-map, map, mapped_writes, recoded, refl, sym, take, take-map, text_at, true, with_writes, wrap_writes, wrapped, ℕ}
+use Rattle.tabled_settings.specs.Replaced.{replace_writes, replaced_text}
+use Rattle.tabled_settings.specs.Truncates.{truncate_writes, truncated}
+use Rattle.tabled_settings.specs.declared.replace.Replace.{Replace}
+use Rattle.tabled_settings.specs.declared.width.truncate.Truncate.{Truncate}
 
 module _ {S : Type 0} (asks : Asking S) (s : S) (f : List ℕ → List ℕ) (says : (p : Position) (old new : List ℕ) (t : S) → asks s p old new t → (t ≡ s) × (new ≡ f old)) (g : Grid (List ℕ)) where
   writes-are : (writes : List Write) (last : S) → AnswersInTurn asks s g writes last → writes ≡ mapped_writes f g (map (λ (w : Write). w.place) writes)
@@ -39,3 +43,23 @@ wrap-all s e g h r = mapped-all WrappedAsks s (wrapped s) (λ p old new t a. a) 
 
 pub wrap-until : (s : ℕ × Bool) (e : Entity) (g h : Grid (List ℕ)) → RewritesUntil WrappedAsks s (inside e g.rows g.columns) g h → FirstWrites (wrap_writes s e g) g h
 wrap-until s e g h r = mapped-until WrappedAsks s (wrapped s) (λ p old new t a. a) g (inside e g.rows g.columns) h r
+
+-- what is asked of a cut of lines
+abbrev pub TruncatedAsks : Asking Truncate
+TruncatedAsks s p old new t = (t ≡ s) × (new ≡ truncated s.width s.suffix.now old)
+
+pub truncate-all : (s : Truncate) (e : Entity) (g h : Grid (List ℕ)) → RewritesAt TruncatedAsks s (inside e g.rows g.columns) g h → h ≡ with_writes (truncate_writes s.width s.suffix.now e g) g
+truncate-all s e g h r = mapped-all TruncatedAsks s (truncated s.width s.suffix.now) (λ p old new t a. a) g (inside e g.rows g.columns) h r
+
+pub truncate-until : (s : Truncate) (e : Entity) (g h : Grid (List ℕ)) → RewritesUntil TruncatedAsks s (inside e g.rows g.columns) g h → FirstWrites (truncate_writes s.width s.suffix.now e g) g h
+truncate-until s e g h r = mapped-until TruncatedAsks s (truncated s.width s.suffix.now) (λ p old new t a. a) g (inside e g.rows g.columns) h r
+
+-- what is asked of a replacement
+abbrev pub ReplacedAsks : Asking Replace
+ReplacedAsks s p old new t = (t ≡ s) × (new ≡ replaced_text s.from.now s.to.now old)
+
+pub replace-all : (s : Replace) (e : Entity) (g h : Grid (List ℕ)) → RewritesAt ReplacedAsks s (inside e g.rows g.columns) g h → h ≡ with_writes (replace_writes s.from.now s.to.now e g) g
+replace-all s e g h r = mapped-all ReplacedAsks s (replaced_text s.from.now s.to.now) (λ p old new t a. a) g (inside e g.rows g.columns) h r
+
+pub replace-until : (s : Replace) (e : Entity) (g h : Grid (List ℕ)) → RewritesUntil ReplacedAsks s (inside e g.rows g.columns) g h → FirstWrites (replace_writes s.from.now s.to.now e g) g h
+replace-until s e g h r = mapped-until ReplacedAsks s (replaced_text s.from.now s.to.now) (λ p old new t a. a) g (inside e g.rows g.columns) h r

@@ -13,7 +13,9 @@ pub mod PiecePlaces
 pub mod PieceTexts
 pub mod Pieces
 pub mod Rearranged
+pub mod Replaced
 pub mod Rewrites
 pub mod Sorted
 pub mod TakenOnce
+pub mod Truncates
 pub mod Wraps

@@ -1,9 +1,10 @@
 //! Laws of what options do. Each is the contract of a function that does nothing.
 
-ghost use Rattle.std.specs.Prelude.{◌≡◌, ◌<◌, ◌≤◌, ℕ, Bool, List, true};
+ghost use Rattle.std.specs.Prelude.{◌≡◌, ◌<◌, ◌≤◌, ◌∷◌, [], ℕ, Bool, List, chars, true};
 ghost use Rattle.std.specs.List.{AllByRecursion, range_with_len};
 ghost use Rattle.std.specs.Cmp.{IsTotalOrder};
 ghost use Rattle.std.specs.List.Sorted.{IsPermutation};
+ghost use Rattle.std.specs.Str.{IsUtf8};
 ghost use Rattle.std.specs.declared.cmp.Ordering.{Ordering};
 ghost use Rattle.tabled_grid.specs.Grid.{Grid, IsEven};
 ghost use Rattle.tabled_grid.specs.declared.records.axis.Axis.{Axis};
@@ -25,7 +26,11 @@ ghost use Rattle.tabled_settings.specs.InOrder.{AreSorted, sorted_from};
 ghost use Rattle.tabled_settings.specs.Sorted.{text_order};
 ghost use Rattle.tabled_settings.specs.declared.sort.SortKeys.{SortKeys};
 ghost use Rattle.tabled_settings.specs.Rearranged.{IsHalfRotated, IsReversed, IsRotated, WithCells, kept_lines, reversed, rotated, spans_reversed, spans_rotated};
+ghost use Rattle.tabled_settings.specs.Replaced.{replaced_text};
 ghost use Rattle.tabled_settings.specs.TakenOnce.{TakesEachOnce};
+ghost use Rattle.tabled_settings.specs.Truncates.{AddsColumns, IsBeginning, beginning, columns, truncated_line};
+ghost use Rattle.tabled_width.specs.Laws.{IsLine};
+ghost use Rattle.tabled_width.specs.Plain.{ArePlain};
 
 use crate::concat::Concat;
 use crate::disable::{Remove, Target};
@@ -34,11 +39,12 @@ use crate::extract::Extract;
 use crate::format::{FormatContent, FormatContentPositioned};
 use crate::formatting::Charset;
 use crate::keep::Keep;
+use crate::replace::Replace;
 use crate::reverse::Reverse;
 use crate::rotate::Rotate;
 use crate::sort::Sort;
 use crate::split::Split;
-use crate::width::Wrap;
+use crate::width::{Truncate, Wrap};
 use std::alloc::{AllocError, Global};
 use tabled_grid::config::{Position, SpannedConfig, ToBounds};
 use tabled_grid::records::{
@@ -315,4 +321,41 @@ where
     R::Cell: CellText,
     ensures cells { KeepsFittingOnEach ⟦<Wrap as CellOption<R, SpannedConfig>>⟧ _wrap.now }
     ensures table { KeepsFitting ⟦<Wrap as TableOption<R, SpannedConfig, D>>⟧ _wrap.now }
+{}
+
+/// Lines that are cut keep merged cells inside the table and apart, on each entity and on the table, also where that
+/// is refused.
+pub fn truncates_keep_merged_cells_fitting<'a, R, D>(_truncate: Truncate<'a>)
+where
+    R: Records + ExactRecords + PeekableRecords + RecordsMut<String>,
+    R::Cell: CellText,
+    ensures cells { KeepsFittingOnEach ⟦<Truncate<'a> as CellOption<R, SpannedConfig>>⟧ _truncate.entry }
+    ensures table { KeepsFitting ⟦<Truncate<'a> as TableOption<R, SpannedConfig, D>>⟧ _truncate.entry }
+{}
+
+/// So do replacements.
+pub fn replacements_keep_merged_cells_fitting<'a, R, D>(_replace: Replace<'a>)
+where
+    R: Records + ExactRecords + PeekableRecords + RecordsMut<String>,
+    R::Cell: CellText,
+    ensures cells { KeepsFittingOnEach ⟦<Replace<'a> as CellOption<R, SpannedConfig>>⟧ _replace.entry }
+    ensures table { KeepsFitting ⟦<Replace<'a> as TableOption<R, SpannedConfig, D>>⟧ _replace.entry }
+{}
+
+/// A line that is cut has at most n columns, where the suffix, of one line, takes as many behind any characters as by
+/// itself. So do suffixes of blanks and visible ASCII, and the ellipsis.
+pub fn truncated_lines_are_narrow()
+    ensures narrow { (width : ℕ) (suffix line : List ℕ) → IsUtf8 suffix → IsUtf8 line → IsLine (chars suffix) → IsLine (chars line) → AddsColumns suffix → columns (truncated_line width suffix line) ≤ width }
+    ensures plain { (suffix : List ℕ) → ArePlain suffix → AddsColumns suffix }
+    ensures ellipsis { AddsColumns (0xE2 ∷ 0x80 ∷ 0xA6 ∷ []) }
+{}
+
+/// What stays of a line is its beginning, cut between pieces: the longest that fits.
+pub fn truncated_lines_keep_their_beginning()
+    ensures { (width : ℕ) (line : List ℕ) → IsUtf8 line → IsLine (chars line) → IsBeginning width line (beginning width line) }
+{}
+
+/// A part that is replaced by itself leaves the text as it was: the parts between its occurrences are all that there is.
+pub fn replaced_by_itself_is_as_it_was()
+    ensures { (part text : List ℕ) → replaced_text part part text ≡ text }
 {}
