@@ -1,5 +1,5 @@
 -- A step does and leaves what its option does and leaves.
-use Rattle.tabled_steps.proofs.Common.{◌≡◌, Axis, Change, Does, Duplicates, DuplicatesFirst, Entity, Grid, Leaves, List, Rearranges, Removes, Same, SpanMap, Step, Then, ThenLeaves, extracted, half_open, inl, inr, refl, removed, ℕ}
+use Rattle.tabled_steps.proofs.Common.{◌≡◌, Axis, Change, Does, Duplicates, DuplicatesFirst, Entity, Grid, Keeps, Leaves, List, Rearranges, Removes, Same, SpanMap, Step, Then, ThenLeaves, extracted, half_open, inl, inr, kept, refl, removed, ℕ}
 use Rattle.std.specs.declared.ops.Bound.{Bound}
 use Rattle.tabled_steps.specs.Acts.{ActsAs, ListTheSame, Makes}
 use Rattle.tabled_steps.specs.declared.step.Step.TheVariants as step
@@ -28,10 +28,16 @@ module _ {A C : Type 0} (text_of : A → List ℕ) (destination source other_des
   duplicates_first g c h d (inl same) = inl same
   duplicates_first g c h d (inr (sources, targets, of, on, writes)) = inr (sources, targets, from g sources of, to g targets on, writes)
 
--- lines that a location finds, and the lines themselves, are taken away alike
+-- lines that a location finds, and the lines themselves, are taken away alike, and kept alike
 module _ {A : Type 0} (axis : Axis) (locates : Grid A → List ℕ → Type 0) (found : Grid A → List ℕ) (alike : ListTheSame locates (λ g lines. lines ≡ found g)) (g : Grid A) (c : SpanMap) (h : Grid A) (d : SpanMap) where
   pub finds_removed : Rearranges (removed axis (found g) g.rows g.columns) g c h d → Removes axis locates g c h d
   finds_removed does = record { found = found g; located = (alike g (found g)).1 refl; rearranged = does }
 
   pub removed_found : Removes axis locates g c h d → Rearranges (removed axis (found g) g.rows g.columns) g c h d
   removed_found does = rw (← (alike g does.found).0 does.located) does.rearranged
+
+  pub finds_kept : Rearranges (kept axis (found g) g.rows g.columns) g c h d → Keeps axis locates g c h d
+  finds_kept does = record { found = found g; located = (alike g (found g)).1 refl; rearranged = does }
+
+  pub kept_found : Keeps axis locates g c h d → Rearranges (kept axis (found g) g.rows g.columns) g c h d
+  kept_found does = rw (← (alike g does.found).0 does.located) does.rearranged

@@ -26,6 +26,8 @@ pub use Rattle.tabled_select.specs.Locators.{columns_with}
 pub use Rattle.tabled_select.specs.Selectors.{rows_of}
 pub use Rattle.tabled_settings.proofs.Common.{Duplicates, DuplicatesFirst, IfOk, IsEven-map_grid, IsEven-with_cell, JoinsAt, ReadsThrough, Rearranges, Removes, cell_at-map_grid, charset_writes, corner_of, cut_rows, dup_writes, extracted, flat_map-append, get_or-map-range_with_len, has_pieces, inside-no_cell, inside-no_column, inside-no_row, is_set, mapped_writes, on_err_weaker, oriented, places, recoded, removed, reversed, rotated, round_from, round_writes, rounds, shape_texts, source_texts, split, wrap_writes, wrapped, writes_keep}
 pub use Rattle.tabled_settings.specs.Joined.{joined_text}
+pub use Rattle.tabled_settings.specs.Kept.{Keeps, kept}
+pub use Rattle.tabled_settings.specs.Named.{all_columns_named, all_rows_named}
 pub use Rattle.tabled_spans.proofs.Common.{IsNamed, IsRun, Joins, MergesRuns, Panels, RunAt, RunsFrom, RunsOf, Spans, SpansFirst, back_of, further, grown_each, has_room, hidden-from, hidden_by, ltb-true, pull_writes, pulled_each, size_of_run, span_writes, spanned, with_line_at}
 pub use Rattle.tabled_spans.specs.Panels.{cells_along}
 pub use Rattle.tabled_spans.specs.Runs.{Merges}

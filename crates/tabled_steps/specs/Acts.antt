@@ -83,3 +83,7 @@ module _ {A : Type 0} (is_blank : A → Type 0) (text_of : A → List ℕ) where
   -- the step that takes away the columns of a name acts as such an option, where it takes columns, and its location finds those of the name
   abbrev pub RemovesNamed : {X R I J N : Type 0} → Axis → LocationOf X R ℕ I J A → TableOptionOf X R SpanMap N A → X → Type 0
   RemovesNamed lines location how x = (name : _) → lines ≡ Columns → ListTheSame (location.locates x) (ColumnsNamed text_of (string_bytes name)) → ActsAsOption (step.RemoveNamed name) how x
+
+  -- the step that keeps the lines of names acts as an option that keeps lines, where it keeps rows, or columns, and its location finds those
+  abbrev pub KeepsNamed : {X R I J N : Type 0} → Axis → Axis → (Grid (List ℕ) → List ℕ) → LocationOf X R ℕ I J A → Step → TableOptionOf X R SpanMap N A → X → Type 0
+  KeepsNamed axis lines named location step how x = lines ≡ axis → ListTheSame (location.locates x) (λ g found. found ≡ named (map_grid text_of g)) → ActsAsOption step how x

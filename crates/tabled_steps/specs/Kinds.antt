@@ -1,5 +1,5 @@
 -- The kinds of steps: what is done, whatever the step is called.
-use Rattle.std.specs.Prelude.{◌≡◌, ◌⊎◌, if◌then◌else◌, ℕ, ℤ, Bool, List, [], None, Option, Some}
+use Rattle.std.specs.Prelude.{◌≡◌, ◌⊎◌, if◌then◌else◌, ℕ, ℤ, Bool, List, [], None, Option, Some, nat_lt}
 use Rattle.std.specs.String.{string_bytes}
 use Rattle.tabled_grid.specs.Entity.{inside}
 use Rattle.tabled_grid.specs.Fitting.{Fits}
@@ -9,12 +9,19 @@ use Rattle.tabled_grid.specs.declared.config.entity.Entity.{Entity}
 use Rattle.tabled_grid.specs.declared.records.axis.Axis.{Axis}
 use Rattle.tabled_grid.specs.declared.records.axis.Axis.TheVariants.{Rows, Columns}
 use Rattle.tabled_options.specs.Writes.{Write}
+use Rattle.tabled_select.specs.Selectors.{columns_of, rows_of}
 use Rattle.tabled_settings.specs.Charsets.{is_set, mapped_writes, recoded}
+use Rattle.tabled_settings.specs.Named.{all_columns_named, all_rows_named}
+use Rattle.tabled_settings.specs.Sorted.{sort_column, text_order}
 use Rattle.tabled_settings.specs.declared.reverse.Reverse.{Reverse}
 use Rattle.tabled_settings.specs.declared.rotate.Rotate.{Rotate}
 use Rattle.tabled_settings.specs.declared.rotate.Rotate.TheVariants.{Bottom, Top}
+use Rattle.tabled_settings.specs.declared.sort.Sort.{Sort}
+use Rattle.tabled_settings.specs.declared.sort.SortColumn.{SortColumn}
+use Rattle.tabled_settings.specs.declared.sort.SortColumn.TheVariants as column
 use Rattle.tabled_settings.specs.declared.split.Split.{Split}
-use Rattle.tabled_steps.specs.Rearrangements.{Rearrangement, extract, remove_named, remove_range, turn}
+use Rattle.tabled_steps.specs.Rearrangements.{Rearrangement, extract, keep, remove_named, remove_range, sort_rows, turn}
+use Rattle.tabled_steps.specs.Selected.{Named, named_by}
 use Rattle.tabled_steps.specs.declared.select.Select.{Select}
 use Rattle.tabled_steps.specs.declared.select.Select.TheVariants as select
 use Rattle.tabled_steps.specs.declared.step.Step.{Step}
@@ -45,12 +52,21 @@ FitIn g cfg = Fits cfg g.rows g.columns
 abbrev pub IsUpsideDown : Rotate → Grid (List ℕ) → SpanMap → Type 0
 IsUpsideDown rotate g cfg = ((rotate ≡ Top) ⊎ (rotate ≡ Bottom)) × FitIn g cfg
 
+-- the columns with an index or a name
+abbrev pub columns_told : SortColumn → Named
+columns_told (column.Index j) = named_by (select.Column j)
+columns_told (column.Name name) = named_by (select.Name name)
+
+-- those that rows are sorted by, where there are rows to sort
+abbrev pub sorted_by : Sort → Named
+sorted_by sort g = if nat_lt sort.from g.rows then columns_told sort.column g else []
+
 -- what steps do:
 -- - a change of each entity that a selector names;
 -- - the texts of the second selector's cells, written to those of the first;
 -- - a row or a column with a text, put in before a line that the table names;
 -- - equal neighbours in all columns, or in all rows, merged;
--- - a rearrangement, the cells that it takes away or keeps, if it is told which, and when it takes no memory;
+-- - a rearrangement, what it takes away, keeps or goes by, if it is told that, and when it takes no memory;
 -- - lines in the opposite order; rows or columns cut into pieces; a second table, joined;
 -- - one and then another
 pub data Act : Type 1 where
@@ -58,7 +74,7 @@ pub data Act : Type 1 where
   Duplicate : Select → Select → Act
   PutPanel : Axis → (Grid (List ℕ) → ℕ) → List ℕ → Act
   MergeAll : Axis → Act
-  Rearrange : Option Select → Rearrangement → (Grid (List ℕ) → SpanMap → Type 0) → Act
+  Rearrange : Option Named → Rearrangement → (Grid (List ℕ) → SpanMap → Type 0) → Act
   ReverseLines : Reverse → Act
   CutLines : Split → Act
   JoinTable : Axis → Grid (List ℕ) → List ℕ → Act
@@ -80,10 +96,13 @@ act_of (step.Footer text) = PutPanel Rows (λ g. g.rows) text
 act_of (step.MergeVertical _) = MergeAll Rows
 act_of (step.MergeHorizontal _) = MergeAll Columns
 act_of (step.Rotate rotate) = Rearrange None (turn rotate) (IsUpsideDown rotate)
-act_of (step.Extract a b c d) = Rearrange (Some (select.Segment a b c d)) (extract a b c d) FitIn
-act_of (step.RemoveRows a b) = Rearrange (Some (select.Rows a b)) (remove_range Rows a b) (λ _ _. ⊥)
-act_of (step.RemoveColumns a b) = Rearrange (Some (select.Columns a b)) (remove_range Columns a b) (λ _ _. ⊥)
-act_of (step.RemoveNamed name) = Rearrange (Some (select.Name name)) (remove_named (string_bytes name)) (λ _ _. ⊥)
+act_of (step.Extract a b c d) = Rearrange (Some (named_by (select.Segment a b c d))) (extract a b c d) FitIn
+act_of (step.RemoveRows a b) = Rearrange (Some (named_by (select.Rows a b))) (remove_range Rows a b) (λ _ _. ⊥)
+act_of (step.RemoveColumns a b) = Rearrange (Some (named_by (select.Columns a b))) (remove_range Columns a b) (λ _ _. ⊥)
+act_of (step.RemoveNamed name) = Rearrange (Some (named_by (select.Name name))) (remove_named (string_bytes name)) (λ _ _. ⊥)
+act_of (step.KeepRows names) = Rearrange (Some (λ g. rows_of (all_rows_named names g))) (keep Rows (all_rows_named names)) (λ _ _. ⊥)
+act_of (step.KeepColumns names) = Rearrange (Some (λ g. columns_of (all_columns_named names g))) (keep Columns (all_columns_named names)) (λ _ _. ⊥)
+act_of (step.Sort sort) = Rearrange (Some (sorted_by sort)) (sort_rows sort.from (text_order sort.keys sort.descending) (sort_column sort.column)) (λ _ _. ⊥)
 act_of (step.Reverse how) = ReverseLines how
 act_of (step.Split how) = CutLines how
 act_of (step.Concat concat) = JoinTable concat.0 concat.1 concat.2

@@ -1,5 +1,6 @@
 -- Rearrangements of a table of texts: where the cells of the new one come from.
 use Rattle.std.specs.Prelude.{◌≡◌, ℕ, List, Some, refl}
+use Rattle.std.specs.declared.cmp.Ordering.{Ordering}
 use Rattle.tabled_grid.specs.Along.{count_along}
 use Rattle.tabled_grid.specs.Bounds.{indexes}
 use Rattle.tabled_grid.specs.Grid.{Grid}
@@ -8,7 +9,9 @@ use Rattle.tabled_grid.specs.declared.config.position.Position.{Position}
 use Rattle.tabled_grid.specs.declared.records.axis.Axis.{Axis}
 use Rattle.tabled_grid.specs.declared.records.axis.Axis.TheVariants.{Columns}
 use Rattle.tabled_select.specs.Locators.{columns_with}
+use Rattle.tabled_settings.specs.Kept.{kept}
 use Rattle.tabled_settings.specs.Rearranged.{extracted, removed, rotated}
+use Rattle.tabled_settings.specs.Sorted.{sorted}
 use Rattle.tabled_settings.specs.declared.rotate.Rotate.{Rotate}
 use Rattle.tabled_settings.specs.declared.rotate.Rotate.TheVariants.{Left}
 use Rattle.tabled_steps.specs.Selected.{half_open}
@@ -46,3 +49,11 @@ remove_range axis a b = record { places = λ g. removed axis (indexes (half_open
 -- all but the columns with a text in the first row
 abbrev pub remove_named : List ℕ → Rearrangement
 remove_named name = record { places = λ g. removed Columns (columns_with name g) g.rows g.columns; each = λ g p. (_, refl) }
+
+-- the rows, or the columns, that the table tells, in that order, each once
+abbrev pub keep : Axis → (Grid (List ℕ) → List ℕ) → Rearrangement
+keep axis found = record { places = λ g. kept axis (found g) g.rows g.columns; each = λ g p. (_, refl) }
+
+-- rows from one on in an order of their texts in the column that the table tells
+abbrev pub sort_rows : ℕ → (List ℕ → List ℕ → Ordering) → (Grid (List ℕ) → ℕ) → Rearrangement
+sort_rows from order column = record { places = λ g. sorted from order (column g) g; each = λ g p. (_, refl) }

@@ -7,8 +7,11 @@ ghost use Rattle.tabled_grid.specs.declared.config.entity.Entity.{Entity};
 ghost use Rattle.tabled_grid.specs.declared.records.axis.Axis.{Axis};
 ghost use Rattle.tabled_grid.specs.declared.records.axis.Axis.TheVariants.{Columns, Rows};
 ghost use Rattle.tabled_options.specs.Does.{Each};
+ghost use Rattle.tabled_settings.specs.Named.{all_columns_named, all_rows_named};
+ghost use Rattle.tabled_settings.specs.declared.line_names.ColumnName.{ColumnName};
+ghost use Rattle.tabled_settings.specs.declared.line_names.RowName.{RowName};
 ghost use Rattle.tabled_spans.specs.Runs.{MergesRuns};
-ghost use Rattle.tabled_steps.specs.Acts.{ActAs, FitsAfterOption, InTurn, ListTheSame, Makes, OnEach, OnObjects, RemovesNamed, RemovesRange, Within};
+ghost use Rattle.tabled_steps.specs.Acts.{ActAs, FitsAfterOption, InTurn, KeepsNamed, ListTheSame, Makes, OnEach, OnObjects, RemovesNamed, RemovesRange, Within};
 ghost use Rattle.tabled_steps.specs.Fitting.{KeepsCellsFitting};
 ghost use Rattle.tabled_steps.specs.MergedRuns.{runs};
 ghost use Rattle.tabled_steps.specs.States.{Becomes, EndAlike, State, after, after_all};
@@ -31,8 +34,10 @@ use tabled_settings::disable::{Remove, Target};
 use tabled_settings::duplicate::Dup;
 use tabled_settings::extract::Extract;
 use tabled_settings::formatting::Charset;
+use tabled_settings::keep::Keep;
 use tabled_settings::reverse::Reverse;
 use tabled_settings::rotate::Rotate;
+use tabled_settings::sort::Sort;
 use tabled_settings::split::Split;
 use tabled_settings::width::Wrap;
 use tabled_spans::merge::{MergeDuplicatesHorizontal, MergeDuplicatesVertical};
@@ -107,6 +112,7 @@ where
     ensures merge_horizontal { ActAs R.Cell.is_blank R.Cell.text_of step.MergeHorizontal ⟦<MergeDuplicatesHorizontal as TableOption<R, SpannedConfig, D>>⟧ }
     ensures rotate { ActAs R.Cell.is_blank R.Cell.text_of step.Rotate ⟦<Rotate as TableOption<R, SpannedConfig, D>>⟧ }
     ensures reverse { ActAs R.Cell.is_blank R.Cell.text_of step.Reverse ⟦<Reverse as TableOption<R, SpannedConfig, D>>⟧ }
+    ensures sort { ActAs R.Cell.is_blank R.Cell.text_of step.Sort ⟦<Sort as TableOption<R, SpannedConfig, D>>⟧ }
     ensures split { ActAs R.Cell.is_blank R.Cell.text_of step.Split ⟦<Split as TableOption<R, SpannedConfig, D>>⟧ }
     ensures concat { ActAs R.Cell.is_blank R.Cell.text_of step.Concat ⟦<Concat as TableOption<R, SpannedConfig, D>>⟧ }
 {}
@@ -156,4 +162,17 @@ where
     ensures rows { RemovesRange R.Cell.is_blank R.Cell.text_of Rows T.lines L.Location ⟦<Remove<L, T> as TableOption<R, SpannedConfig, D>>⟧ _how.now }
     ensures columns { RemovesRange R.Cell.is_blank R.Cell.text_of Columns T.lines L.Location ⟦<Remove<L, T> as TableOption<R, SpannedConfig, D>>⟧ _how.now }
     ensures named { RemovesNamed R.Cell.is_blank R.Cell.text_of T.lines L.Location ⟦<Remove<L, T> as TableOption<R, SpannedConfig, D>>⟧ _how.now }
+{}
+
+/// A step that keeps the rows, or the columns, of names does, and refused leaves, what `Keep` does and leaves with
+/// any location that finds these.
+pub fn keep_steps_do_what_keep_does<R, D, L, T>(_how: &Keep<L, T>)
+where
+    T: Target,
+    L: Location<R, Coordinate = usize> + Drop,
+    <L::IntoIter as IntoIterator>::IntoIter: Drop,
+    R: Records + ExactRecords + Resizable,
+    R::Cell: CellText,
+    ensures rows { (names : List RowName) → KeepsNamed R.Cell.is_blank R.Cell.text_of Rows T.lines (all_rows_named names) L.Location (step.KeepRows names) ⟦<Keep<L, T> as TableOption<R, SpannedConfig, D>>⟧ _how.now }
+    ensures columns { (names : List ColumnName) → KeepsNamed R.Cell.is_blank R.Cell.text_of Columns T.lines (all_columns_named names) L.Location (step.KeepColumns names) ⟦<Keep<L, T> as TableOption<R, SpannedConfig, D>>⟧ _how.now }
 {}

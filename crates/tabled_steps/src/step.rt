@@ -19,8 +19,11 @@ use tabled_settings::disable::Remove;
 use tabled_settings::duplicate::Dup;
 use tabled_settings::extract::Extract;
 use tabled_settings::formatting::Charset;
+use tabled_settings::keep::Keep;
+use tabled_settings::line_names::{ColumnNames, RowNames};
 use tabled_settings::reverse::Reverse;
 use tabled_settings::rotate::Rotate;
+use tabled_settings::sort::Sort;
 use tabled_settings::split::Split;
 use tabled_settings::width::Wrap;
 use tabled_spans::merge::{Merge, MergeDuplicatesHorizontal, MergeDuplicatesVertical};
@@ -68,6 +71,11 @@ pub enum Step {
     RemoveColumns(usize, usize),
     /// Takes away the columns with a text in the first row.
     RemoveNamed(String),
+    /// Keeps the rows that are named, in the order in which they are named, each once.
+    KeepRows(RowNames),
+    KeepColumns(ColumnNames),
+    /// Puts rows in the order of a column.
+    Sort(Sort),
     /// One step, and then another.
     Both(Box<Step>, Box<Step>),
 }
@@ -131,6 +139,11 @@ impl Step {
             Step::RemoveNamed(name) => {
                 Remove::column(ByColumnName::new(name)).change(alloc, records, cfg, dimension)
             }
+            Step::KeepRows(names) => Keep::rows(names).change(alloc, records, cfg, dimension),
+            Step::KeepColumns(names) => {
+                Keep::columns(names).change(alloc, records, cfg, dimension)
+            }
+            Step::Sort(sort) => sort.change(alloc, records, cfg, dimension),
             Step::Both(first, second) => {
                 Box::into_inner(first).apply(alloc, records, cfg, dimension)?;
                 Box::into_inner(second).apply(alloc, records, cfg, dimension)

@@ -14,6 +14,7 @@ returns g c =
       merge_horizontal = λ merge. acts g.R.Cell.Blank.is_blank text_of (step.MergeHorizontal merge);
       rotate = λ rotate. acts g.R.Cell.Blank.is_blank text_of (step.Rotate rotate);
       reverse = λ reverse. acts g.R.Cell.Blank.is_blank text_of (step.Reverse reverse);
+      sort = λ sort. acts g.R.Cell.Blank.is_blank text_of (step.Sort sort);
       split = λ split. acts g.R.Cell.Blank.is_blank text_of (step.Split split);
       concat = λ concat. acts g.R.Cell.Blank.is_blank text_of (step.Concat concat);
     }

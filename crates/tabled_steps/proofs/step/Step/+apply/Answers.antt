@@ -95,6 +95,14 @@ pub returns-in-RemoveNamed-clause-ok : goal.returns-in-RemoveNamed-clause-ok
 returns-in-RemoveNamed-clause-ok g n c =
     rw c.in-RemoveNamed.is (on_ok_weaker c.change-in-RemoveNamed.result (λ d. rw (← d.located) d.rearranged) (rw (c.column-in-RemoveNamed.ensures, c.new-in-RemoveNamed.ensures) at c.change-in-RemoveNamed.ensures.ok))
 
+pub returns-in-KeepRows-clause-ok : goal.returns-in-KeepRows-clause-ok
+returns-in-KeepRows-clause-ok g n c =
+    rw c.in-KeepRows.is (on_ok_weaker c.change-in-KeepRows.result (λ d. rw (← d.located) d.rearranged) (rw c.rows.ensures at c.change-in-KeepRows.ensures.ok))
+
+pub returns-in-KeepColumns-clause-ok : goal.returns-in-KeepColumns-clause-ok
+returns-in-KeepColumns-clause-ok g n c =
+    rw c.in-KeepColumns.is (on_ok_weaker c.change-in-KeepColumns.result (λ d. rw (← d.located) d.rearranged) (rw c.columns.ensures at c.change-in-KeepColumns.ensures.ok))
+
 pub returns-in_ok-apply-in-Both-clause-ok : goal.returns-in_ok-apply-in-Both-clause-ok
 returns-in_ok-apply-in-Both-clause-ok g n c =
     let first = rw c.into_inner.ensures at c.in_ok-apply-in-Both.ensures.ok in
