@@ -10,6 +10,7 @@ pub mod language;
 pub mod merged;
 pub mod options;
 pub mod own_store;
+pub mod pages;
 pub mod pictures;
 pub mod refusing;
 pub mod rows;
