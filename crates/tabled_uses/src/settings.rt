@@ -10,6 +10,7 @@ use tabled_settings::duplicate::Dup;
 use tabled_settings::extract::Extract;
 use tabled_settings::format::Format;
 use tabled_settings::formatting::Charset;
+use tabled_settings::replace::Replace;
 use tabled_settings::reverse::Reverse;
 use tabled_settings::rotate::Rotate;
 use tabled_settings::sort::Sort;
@@ -47,6 +48,16 @@ pub fn writes_anew(alloc: Global, table: &mut Table) -> Result<(), AllocError> {
 pub fn wraps(alloc: Global, table: &mut Table, width: usize) -> Result<(), AllocError> {
     table.modify(alloc, Columns::first(), Width::wrap(width))?;
     table.with(alloc, Width::wrap(width).keep_words(true))
+}
+
+/// Cuts the lines of the first column, with dots behind what stays, and replaces a part of all texts.
+pub fn shortens(alloc: Global, table: &mut Table, width: usize) -> Result<(), AllocError> {
+    table.modify(
+        alloc,
+        Columns::first(),
+        Width::truncate(width).suffix("..."),
+    )?;
+    table.with(alloc, Replace::new("N/A", "-"))
 }
 
 pub fn turns_and_cuts(alloc: Global, table: &mut Table) -> Result<(), AllocError> {

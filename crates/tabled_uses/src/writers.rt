@@ -19,8 +19,10 @@ use tabled_settings::formatting::Charset;
 use tabled_settings::laws::{
     charsets_keep_merged_cells_fitting, duplicates_keep_merged_cells_fitting,
     formats_keep_merged_cells_fitting, positioned_formats_keep_merged_cells_fitting,
+    replacements_keep_merged_cells_fitting, truncates_keep_merged_cells_fitting,
     wraps_keep_merged_cells_fitting,
 };
+use tabled_settings::replace::Replace;
 use tabled_settings::width::Width;
 use tabled_spans::laws::spans_fit_midway;
 
@@ -78,6 +80,30 @@ where
     let wrap = Width::wrap(width).keep_words(true);
     wraps_keep_merged_cells_fitting::<R, ()>(&wrap);
     changes(alloc, records, cfg, &mut (), wrap)
+}
+
+/// Replaces a part of every text, and cuts their lines at n columns.
+pub fn shortens_all<R>(
+    alloc: Global,
+    records: &mut R,
+    cfg: &mut SpannedConfig,
+    part: &str,
+    width: usize,
+) -> Result<(), AllocError>
+where
+    R: Records + ExactRecords + PeekableRecords + RecordsMut<String>,
+    R::Cell: CellText,
+    requires well { R.is_well_formed records.old }
+    requires fits { Fits cfg.old ((R.grid records.old).rows) ((R.grid records.old).columns) }
+    ensures well { R.is_well_formed records.new }
+    ensures fits { Fits cfg.new ((R.grid records.new).rows) ((R.grid records.new).columns) }
+{
+    let replace = Replace::new(part, "-");
+    replacements_keep_merged_cells_fitting::<R, ()>(replace);
+    changes(alloc, records, cfg, &mut (), replace)?;
+    let cut = Width::truncate(width).suffix("...");
+    truncates_keep_merged_cells_fitting::<R, ()>(cut);
+    changes(alloc, records, cfg, &mut (), cut)
 }
 
 /// In the middle of an entity, after one more span of columns, merged cells lie inside the table, and of two
