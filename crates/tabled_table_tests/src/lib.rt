@@ -1,6 +1,8 @@
-//! Tests of selectors, of options and of tables.
+//! Tests of selectors, of options, of tables and of HTML.
 #![tactic(auto)]
 
+#[cfg(test)]
+mod html;
 #[cfg(test)]
 mod options;
 #[cfg(test)]
