@@ -30,7 +30,11 @@ fn texts<'a>(
         texts.push(found)?;
         let tail = behind_element(93, behind)?;
         match tail {
-            Behind::Closed(after) => return Ok((texts, after)),
+            Behind::Closed(after) => {
+                // Most rows have few texts: what is left over counts.
+                texts.shrink_to_fit();
+                return Ok((texts, after));
+            }
             Behind::Next(next) => rest = next,
         }
     }

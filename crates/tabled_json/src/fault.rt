@@ -184,6 +184,11 @@ impl<T: Drop> From<AllocFailed<T>> for Unread {
     }
 }
 
+/// Whether bytes begin with a word of JSON.
+fn begins_with_word(bytes: &[u8]) -> bool {
+    bytes.starts_with(b"true") || bytes.starts_with(b"false") || bytes.starts_with(b"null")
+}
+
 /// What is told where something else is wanted.
 pub(crate) fn unexpected(bytes: &[u8]) -> Unread {
     wanted(Fault::Unexpected, bytes)
@@ -200,7 +205,7 @@ pub(crate) fn wanted(fault: Fault, bytes: &[u8]) -> Unread {
         b']' | b'}' => Fault::Closing,
         b'\'' => Fault::SingleQuote,
         b'/' | b'#' => Fault::Comment,
-        b'A'..=b'Z' | b'a'..=b'z' => Fault::NoWord,
+        b'A'..=b'Z' | b'a'..=b'z' if !begins_with_word(bytes) => Fault::NoWord,
         _ => fault,
     };
     Unread::Faulty(told, bytes.len())

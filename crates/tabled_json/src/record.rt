@@ -49,7 +49,11 @@ fn members<'a>(
         members.push(found)?;
         let tail = behind_element(125, behind)?;
         match tail {
-            Behind::Closed(after) => return Ok((members, after)),
+            Behind::Closed(after) => {
+                // Most objects have few members: what is left over counts.
+                members.shrink_to_fit();
+                return Ok((members, after));
+            }
             Behind::Next(next) => rest = next,
         }
     }
