@@ -1,6 +1,6 @@
 -- Texts of rows.
 use Rattle.std.specs.Borrow.{Bor}
-use Rattle.std.specs.Prelude.{ℕ, List, [], map, slice_index_or}
+use Rattle.std.specs.Prelude.{◌≡◌, ℕ, List, [], map, slice_index_or}
 use Rattle.std.specs.Global.{Vec}
 use Rattle.tabled_grid.specs.Grid.{Grid, map_grid}
 
@@ -31,3 +31,7 @@ texts_of row = texts_by text_of row
 -- the texts of rows of fields
 abbrev pub rows_of : List (Vec (Bor (List ℕ))) → List (List (List ℕ))
 rows_of rows = rows_by text_of rows
+
+-- what is made of a lent text has that text
+abbrev pub KeepsTexts : {A : Type 0} → (Bor (List ℕ) → A → Type 0) → (A → List ℕ) → Type 0
+KeepsTexts gives text = (lent : Bor (List ℕ)) (made : _) → gives lent made → text made ≡ lent.now

@@ -4,7 +4,7 @@ ghost use Rattle.std.specs.Prelude.{◌≡◌, ◌≤◌, [], IfErr, IfOk, IsOk,
 ghost use Rattle.tabled_csv.specs.Grammar.{IsSeparator, IsCsv, IsLines, behind_mark};
 ghost use Rattle.tabled_csv.specs.Reading.{AtFault, LinesFault, NoRows, RecordAt, RecordFault, UnreadAt};
 ghost use Rattle.tabled_csv.specs.Faults.{IsFault, line_at};
-ghost use Rattle.tabled_csv.specs.Texts.{rows_of, texts_of};
+ghost use Rattle.tabled_csv.specs.Texts.{KeepsTexts, rows_by, rows_of, texts_by};
 
 use crate::fault::{ReadError, Unread};
 use crate::field::read_field;
@@ -13,25 +13,29 @@ use crate::separator::Separator;
 use crate::stop::{Stop, begins_with_mark, behind_line_end};
 use std::alloc::Global;
 use std::str;
+use tabled_grid::records::CellText;
 
 /// The record at the front of bytes, and the bytes behind its line. There is room for some fields from the start.
-fn record<'a>(
+fn record<'a, T>(
     alloc: Global,
     separator: u8,
     is_text: bool,
     room: usize,
     bytes: &'a [u8],
     spare: &mut Spare<'a>,
-) -> Result<(Vec<&'a str>, &'a [u8]), Unread>
+) -> Result<(Vec<T>, &'a [u8]), Unread>
+where
+    T: From<&'a str> + CellText,
+    requires keeps { KeepsTexts T.from_gives T.text_of }
     requires separator { IsSeparator separator }
     requires text { IsTrue is_text → IsUtf8 bytes.now }
-    ensures { MatchResult result (λ read. RecordAt separator bytes.now (texts_of read.0) read.1.now) (UnreadAt (RecordFault separator bytes.now)) }
+    ensures { MatchResult result (λ read. RecordAt separator bytes.now (texts_by T.text_of read.0) read.1.now) (UnreadAt (RecordFault separator bytes.now)) }
 {
     let mut row = Vec::with_capacity(alloc, room)?;
     let mut rest = bytes;
     'fields: loop {
         let (text, stop, after) = read_field(separator, is_text, rest, spare)?;
-        row.push(text)?;
+        row.push(T::from(text))?;
         match stop {
             Stop::Separator => rest = after,
             Stop::Line => return Ok((row, after)),
@@ -41,17 +45,20 @@ fn record<'a>(
 }
 
 /// The rows of lines.
-fn lines<'a>(
+fn lines<'a, T>(
     alloc: Global,
     separator: u8,
     is_text: bool,
     bytes: &'a [u8],
     spare: &mut Spare<'a>,
-) -> Result<Vec<Vec<&'a str>>, Unread>
+) -> Result<Vec<Vec<T>>, Unread>
+where
+    T: From<&'a str> + CellText,
+    requires keeps { KeepsTexts T.from_gives T.text_of }
     requires separator { IsSeparator separator }
     requires text { IsTrue is_text → IsUtf8 bytes.now }
     ensures err { OnErr result (IsLines separator bytes.now [] → ⊥) }
-    ensures read { MatchResult result (λ rows. IsLines separator bytes.now (rows_of rows.items)) (UnreadAt (LinesFault separator bytes.now)) }
+    ensures read { MatchResult result (λ rows. IsLines separator bytes.now (rows_by T.text_of rows.items)) (UnreadAt (LinesFault separator bytes.now)) }
 {
     let mut rows = Vec::new(alloc);
     let mut room = 0;
@@ -119,16 +126,21 @@ pub fn read<'a>(
     read_with(alloc, separator, bytes, &mut Spare::new(room))
 }
 
-/// The rows of texts that bytes mean as CSV, as `read` gives them. What a room has left may serve for several.
+/// The rows of texts that bytes mean as CSV, as `read` gives them, each made a cell. What a room has left may serve for
+/// several.
 ///
 /// Of this project.
-pub fn read_with<'a>(
+pub fn read_with<'a, T>(
     alloc: Global,
     separator: Separator,
     bytes: &'a [u8],
     spare: &mut Spare<'a>,
-) -> Result<Vec<Vec<&'a str>>, ReadError>
-    ensures rows { IfOk result (λ rows. IsCsv separator bytes.now (rows_of rows.items)) }
+) -> Result<Vec<Vec<T>>, ReadError>
+where
+    T: From<&'a str> + CellText,
+    // A cell that is made of a text has that text.
+    requires keeps { KeepsTexts T.from_gives T.text_of }
+    ensures rows { IfOk result (λ rows. IsCsv separator bytes.now (rows_by T.text_of rows.items)) }
 
     // Bytes that mean no row take no memory.
     ensures promised { IsCsv separator bytes.now [] → IsOk result }

@@ -47,39 +47,11 @@ pub(crate) fn csv_rows<'a>(
     ensures { MatchResult result (λ rows. IsCsv separator bytes.now (texts_in_records rows.items)) (NoRowsIn (Csv separator) bytes.now) }
 {
     match read_with(alloc, separator, bytes, spare) {
-        Ok(rows) => match lent_rows(alloc, rows) {
-            Ok(rows) => Ok(rows),
-            Err(_) => Err(RowsError::OutOfMemory),
-        },
+        Ok(rows) => Ok(rows),
         Err(ReadError::Faulty { line, fault }) => Err(RowsError::Faulty {
             line,
             fault: SourceFault::Csv(fault),
         }),
         Err(ReadError::OutOfMemory) => Err(RowsError::OutOfMemory),
     }
-}
-
-/// Rows of texts as records. Each row is let go before the next one becomes a record.
-fn lent_rows<'a>(
-    alloc: Global,
-    rows: Vec<Vec<&'a str>>,
-) -> Result<Vec<Vec<LentText<'a>>>, AllocError>
-    ensures { IfOk result (λ records. texts_in_records records.items ≡ rows_of rows.entry.items) }
-{
-    let mut records = Vec::with_capacity(alloc, rows.len())?;
-    for row in rows {
-        records.push(lent_row(alloc, &row)?)?;
-    }
-    Ok(records)
-}
-
-/// A row of texts as a record.
-fn lent_row<'a>(alloc: Global, row: &[&'a str]) -> Result<Vec<LentText<'a>>, AllocError>
-    ensures { IfOk result (λ lent. texts_in_row lent ≡ map text_of row.now) }
-{
-    let mut lent = Vec::with_capacity(alloc, row.len())?;
-    for text in row {
-        lent.push(LentText::from(*text))?;
-    }
-    Ok(lent)
 }

@@ -1,12 +1,12 @@
-use Rattle.tabled_csv.proofs.Common.{IsTrue, IsUtf8, length, map, text_of}
+use Rattle.tabled_csv.proofs.Common.{IsTrue, IsUtf8, length, map}
 use Rattle.tabled_csv.proofs.Progress.{FieldsRead}
 use Rattle.tabled_csv.proofs.reading.record.Given as goal
 
 abbrev pub invariant-fields : goal.invariant-fields
-invariant-fields l = record {
-  read : FieldsRead l.separator l.bytes (map text_of l.row.items) l.rest;
+invariant-fields g l = record {
+  read : FieldsRead l.separator l.bytes (map g.T.CellText.text_of l.row.items) l.rest;
   text : IsTrue l.is_text → IsUtf8 l.rest;
 }
 
 abbrev pub decreases-fields : goal.decreases-fields
-decreases-fields l = length l.rest
+decreases-fields g l = length l.rest
