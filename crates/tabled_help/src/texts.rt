@@ -40,7 +40,7 @@ What is written
   -o FILE, --output FILE        writes it to a file, which is made only then: a fault leaves it as it was
 
 What is told
-  --check                       tells each step that names nothing in its table
+  --check                       tells each step that names or changes nothing, and status 5
   --explain [K]                 tells what fault K is, with an example and its cure, or what each fault is
   --prove                       proves and builds the program, and compares it with the one in bin/
   --help [WORD]                 prints this, or what is said of a verb or a selector
@@ -150,6 +150,7 @@ STATUSES
                                 for
   3                             nothing: memory ran out
   4                             reading or writing failed: nothing is said of what went out
+  5                             the table, and --check told something of it
 
 FAULTS
 

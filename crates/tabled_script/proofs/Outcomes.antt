@@ -1,15 +1,15 @@
 -- What outcomes say.
 use Rattle.std.specs.Io.KnownBytes.{Appends}
-use Rattle.std.specs.Prelude.{String}
+use Rattle.std.specs.Prelude.{Bool, String, false, true}
 use Rattle.tabled_language.proofs.EndedLines.{parse_between-alone}
 use Rattle.tabled_language.specs.Lent.{texts_in_records}
 use Rattle.tabled_language.specs.Parsing.{cell_texts}
 use Rattle.tabled_language.specs.Script.{parse, parse_between}
 use Rattle.tabled_language.specs.declared.fault.Fault.{Fault}
-use Rattle.tabled_script.proofs.Common.{[], ◌∙◌, ◌≡◌, ◌⊎◌, Err, Global, LentText, List, Ok, Option, Result, Script, Vec, arith, ended, inl, inr, subst, sym, ℕ}
+use Rattle.tabled_script.proofs.Common.{[], ◌∙◌, ◌≡◌, ◌⊎◌, Err, Global, LentText, List, Ok, Option, Result, Script, Vec, arith, ended, inl, inr, refl, subst, sym, ℕ}
 use Rattle.tabled_script.specs.Answer.{IsUndrawn, ShowsState, fault_line, memory_line}
-use Rattle.tabled_script.specs.Outcome.{Comes, ComesOfState, Ends, GivesNoTable, ShowsNoTable, ShowsTable, status_of}
-use Rattle.tabled_script.specs.Status.{IsStatus, done, faulty, out_of_memory}
+use Rattle.tabled_script.specs.Outcome.{Comes, ComesOfState, Ends, GivesNoTable, ShowsNoTable, ShowsTable, status_with_notes}
+use Rattle.tabled_script.specs.Status.{IsAnswer, IsDone, IsStatus, done, faulty, out_of_memory}
 use Rattle.tabled_script.specs.declared.form.Form.{Form}
 use Rattle.tabled_script.specs.declared.outcome.Outcome.{Outcome}
 use Rattle.tabled_script.specs.declared.outcome.Outcome.TheVariants.{Failed, Faulty, OutOfMemory, TooNarrow, Written}
@@ -22,28 +22,42 @@ of_end how read script old new (TooNarrow narrow) is undrawn = (script, is, undr
 of_end how read script old new OutOfMemory is same = same
 of_end how read script old new Failed is any = tt
 
--- by its status
+-- of an answer, by its status
+pub answer_known : (outcome : Outcome) (has_notes : Bool) → IsAnswer (status_with_notes outcome has_notes)
+answer_known Written true = inr refl
+answer_known Written false = inl (inl refl)
+answer_known (Faulty line fault) has_notes = inl (inr (inl refl))
+answer_known (TooNarrow narrow) has_notes = inl (inr (inl refl))
+answer_known OutOfMemory has_notes = inl (inr (inr (inl refl)))
+answer_known Failed has_notes = inl (inr (inr (inr refl)))
+
 module _ (how : Form) (read : Result Script (ℕ × Fault)) (old new : Option (List ℕ)) where
-  pub is_done : (outcome : Outcome) → Comes how read old new outcome → status_of outcome ≡ done → (script : Script) × (read ≡ Ok script) × ShowsState how (ended script) old new
-  is_done Written comes is = comes
-  is_done (Faulty line fault) comes is = absurd (omega (arith, is))
-  is_done (TooNarrow narrow) comes is = absurd (omega (arith, is))
-  is_done OutOfMemory comes is = absurd (omega (arith, is))
-  is_done Failed comes is = absurd (omega (arith, is))
+  pub is_done : (outcome : Outcome) (has_notes : Bool) → Comes how read old new outcome → IsDone (status_with_notes outcome has_notes) → (script : Script) × (read ≡ Ok script) × ShowsState how (ended script) old new
+  is_done Written has_notes comes is = comes
+  is_done (Faulty line fault) has_notes comes (inl is) = absurd (omega (arith, is))
+  is_done (Faulty line fault) has_notes comes (inr is) = absurd (omega (arith, is))
+  is_done (TooNarrow narrow) has_notes comes (inl is) = absurd (omega (arith, is))
+  is_done (TooNarrow narrow) has_notes comes (inr is) = absurd (omega (arith, is))
+  is_done OutOfMemory has_notes comes (inl is) = absurd (omega (arith, is))
+  is_done OutOfMemory has_notes comes (inr is) = absurd (omega (arith, is))
+  is_done Failed has_notes comes (inl is) = absurd (omega (arith, is))
+  is_done Failed has_notes comes (inr is) = absurd (omega (arith, is))
 
-  pub is_faulty : (outcome : Outcome) → Comes how read old new outcome → status_of outcome ≡ faulty → (new ≡ old) × GivesNoTable how read
-  is_faulty Written comes is = absurd (omega (arith, is))
-  is_faulty (Faulty line fault) comes is = (comes.1, inl ((line, fault), comes.0))
-  is_faulty (TooNarrow narrow) comes is = (comes.3, inr (comes.0, comes.1, comes.2))
-  is_faulty OutOfMemory comes is = absurd (omega (arith, is))
-  is_faulty Failed comes is = absurd (omega (arith, is))
+  pub is_faulty : (outcome : Outcome) (has_notes : Bool) → Comes how read old new outcome → status_with_notes outcome has_notes ≡ faulty → (new ≡ old) × GivesNoTable how read
+  is_faulty Written true comes is = absurd (omega (arith, is))
+  is_faulty Written false comes is = absurd (omega (arith, is))
+  is_faulty (Faulty line fault) has_notes comes is = (comes.1, inl ((line, fault), comes.0))
+  is_faulty (TooNarrow narrow) has_notes comes is = (comes.3, inr (comes.0, comes.1, comes.2))
+  is_faulty OutOfMemory has_notes comes is = absurd (omega (arith, is))
+  is_faulty Failed has_notes comes is = absurd (omega (arith, is))
 
-  pub is_out_of_memory : (outcome : Outcome) → Comes how read old new outcome → status_of outcome ≡ out_of_memory → new ≡ old
-  is_out_of_memory Written comes is = absurd (omega (arith, is))
-  is_out_of_memory (Faulty line fault) comes is = absurd (omega (arith, is))
-  is_out_of_memory (TooNarrow narrow) comes is = absurd (omega (arith, is))
-  is_out_of_memory OutOfMemory comes is = comes
-  is_out_of_memory Failed comes is = absurd (omega (arith, is))
+  pub is_out_of_memory : (outcome : Outcome) (has_notes : Bool) → Comes how read old new outcome → status_with_notes outcome has_notes ≡ out_of_memory → new ≡ old
+  is_out_of_memory Written true comes is = absurd (omega (arith, is))
+  is_out_of_memory Written false comes is = absurd (omega (arith, is))
+  is_out_of_memory (Faulty line fault) has_notes comes is = absurd (omega (arith, is))
+  is_out_of_memory (TooNarrow narrow) has_notes comes is = absurd (omega (arith, is))
+  is_out_of_memory OutOfMemory has_notes comes is = comes
+  is_out_of_memory Failed has_notes comes is = absurd (omega (arith, is))
 
 -- how a run ends, by the status that it ends with
 module _ (old mid new : Option (List ℕ)) (status : ℕ) where

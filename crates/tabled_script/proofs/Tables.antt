@@ -46,5 +46,5 @@ module _ (sources : List Source) (i : ℕ) (source : Source) (here : i < length 
   unread index rows_error.OutOfMemory none = tt
 
   pub unjoined : (index : ℕ) (error : JoinError) (rows others : List (List (List ℕ))) → HasTable (take i sources) rows → HasRows source others → NotBehind rows others error → NoTable sources (Unjoined index error)
-  unjoined index (join_error.Differs head first) rows others table has differs = heads_differ rows others table has differs
+  unjoined index (join_error.Differs head first file) rows others table has differs = heads_differ rows others table has differs
   unjoined index join_error.OutOfMemory rows others table has differs = tt

@@ -2,7 +2,7 @@
 use Rattle.std.specs.Prelude.{ℕ, Bool, true, false, ◌==◌, ◌&&◌, ◌||◌, nat_lt, not, if◌then◌else◌, List, [], ◌∷◌, ◌++◌, codes, length, slice_index, Option, None, Some, Result, Ok, Err, String, map}
 use Rattle.std.specs.Global.{Global, Vec}
 use Rattle.std.specs.List.{after_first, before_first, position_or_len}
-use Rattle.std.specs.Option.{is_some}
+use Rattle.std.specs.Option.{is_some, option_map, unwrap_or}
 use Rattle.std.specs.Str.{bytes_eq}
 use Rattle.std.specs.String.{string_bytes}
 use Rattle.tabled_draw.specs.declared.alignment.Alignment.{Alignment}
@@ -159,12 +159,23 @@ step_of (word ∷ words) = (word ∷ words) ∷ []
 abbrev pub step_ended : Asked → Asked
 step_ended asked = record asked { steps = asked.steps ++ step_of asked.step; step = [] }
 
+-- the text that a word of a step stands for: `\then` for `then`, which by itself ends a step
+abbrev pub text_of_word : List ℕ → List ℕ
+text_of_word word = if bytes_eq word (codes "\\then") then codes "then" else word
+
+-- the word behind these is a width that has room for no text
+abbrev pub leaves_no_text : List (List ℕ) → List ℕ → Bool
+leaves_no_text [] word = false
+leaves_no_text (verb ∷ []) word = bytes_eq verb (codes "wrap") && unwrap_or (option_map (λ n. n == 0) (length_of word)) false
+leaves_no_text (verb ∷ next ∷ others) word = false
+
 -- what is asked for with one more word: `then` ends a step, and any other is its next word, the first no file's name
 abbrev pub with_word : List ℕ → Asked → Result Asked Blamed
 with_word word asked =
     if bytes_eq word (codes "then") then Ok (expect next.Word (step_ended asked))
     else (if (length asked.step == 0) && is_some (read_by word) then Err (misuse.FileAsStep, word)
-    else Ok (record asked { next = next.Word; step = asked.step ++ word ∷ [] }))
+    else (if leaves_no_text asked.step word then Err (misuse.NoColumns, word)
+    else Ok (record asked { next = next.Word; step = asked.step ++ text_of_word word ∷ [] })))
 
 -- what is asked for once an argument is taken as what it is, or why it asks for nothing
 abbrev pub taken_as : Next → List ℕ → Asked → Result Asked Blamed

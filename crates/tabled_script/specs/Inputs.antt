@@ -68,12 +68,12 @@ NoRowsIn how bytes rows_error.OutOfMemory = Unit {0}
 
 -- rows don't stand behind others, if not for want of memory
 abbrev pub NotBehind : List (List (List ℕ)) → List (List (List ℕ)) → JoinError → Type 0
-NotBehind rows others (join_error.Differs head first) = behind rows others ≡ None
+NotBehind rows others (join_error.Differs head first file) = behind rows others ≡ None
 NotBehind rows others join_error.OutOfMemory = Unit {0}
 
 -- why files have no table, if not for want of memory
 abbrev pub NoTable : List Source → SourcesError → Type 0
 NoTable sources (Unread index (rows_error.Faulty line fault)) = HasFaulty sources
 NoTable sources (Unread index rows_error.OutOfMemory) = Unit {0}
-NoTable sources (Unjoined index (join_error.Differs head first)) = HeadsDiffer sources
+NoTable sources (Unjoined index (join_error.Differs head first file)) = HeadsDiffer sources
 NoTable sources (Unjoined index join_error.OutOfMemory) = Unit {0}

@@ -1,12 +1,12 @@
 -- What comes of a script: its table written, or why it isn't.
-use Rattle.std.specs.Prelude.{◌≡◌, ◌⊎◌, ℕ, IfErr, IfOk, OnOk, List, Option, Result, Ok, Err}
+use Rattle.std.specs.Prelude.{◌≡◌, ◌⊎◌, ℕ, Bool, if◌then◌else◌, IfErr, IfOk, OnOk, List, Option, Result, Ok, Err}
 use Rattle.std.specs.Io.KnownBytes.{Appends}
 use Rattle.tabled_language.specs.Parsing.{cell_texts}
 use Rattle.tabled_language.specs.Script.{Script, parse, parse_between}
 use Rattle.tabled_language.specs.declared.fault.Fault.{Fault}
 use Rattle.tabled_script.specs.Answer.{IsUndrawn, ShowsState, ended, fault_line, memory_line}
 use Rattle.tabled_script.specs.Inputs.{HasFaulty, HasTable, HeadsDiffer}
-use Rattle.tabled_script.specs.Status.{done, failed, faulty, out_of_memory}
+use Rattle.tabled_script.specs.Status.{done, failed, faulty, noted, out_of_memory}
 use Rattle.tabled_script.specs.declared.form.Form.{Form}
 use Rattle.tabled_script.specs.declared.inputs.JoinError.TheVariants as join_error
 use Rattle.tabled_script.specs.declared.inputs.RowsError.TheVariants as rows_error
@@ -51,11 +51,16 @@ status_of (TooNarrow narrow) = faulty
 status_of OutOfMemory = out_of_memory
 status_of Failed = failed
 
+-- the status of the outcome of an answer, by whether something was told of what was checked
+abbrev pub status_with_notes : Outcome → Bool → ℕ
+status_with_notes Written has_notes = if has_notes then noted else done
+status_with_notes other has_notes = status_of other
+
 -- the status of why files have no table
 abbrev pub status_of_error : SourcesError → ℕ
 status_of_error (Unread index (rows_error.Faulty line fault)) = faulty
 status_of_error (Unread index rows_error.OutOfMemory) = out_of_memory
-status_of_error (Unjoined index (join_error.Differs head first)) = faulty
+status_of_error (Unjoined index (join_error.Differs head first file)) = faulty
 status_of_error (Unjoined index join_error.OutOfMemory) = out_of_memory
 
 -- what an outcome says of a state and what a writer had and has

@@ -124,6 +124,7 @@ misuse_text (misuse.NeedlessValue setting) value = name_of setting ++ codes " ta
 misuse_text (misuse.Repeated setting) value = name_of setting ++ codes " stands here twice"
 misuse_text misuse.InputRepeated name = codes "standard input is read once: - stands here twice"
 misuse_text misuse.FileAsStep name = file_text name
+misuse_text misuse.NoColumns word = codes "wrap " ++ (word ++ codes " would leave no text: it takes a width of 1 or more")
 
 -- what is told of a refusal
 abbrev pub refusal_text : Refusal → List ℕ

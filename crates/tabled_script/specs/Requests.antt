@@ -88,11 +88,21 @@ goes_with written.Csv _ = false
 goes_with written.Html setting = says_html setting
 goes_with written.HtmlPage setting = says_html setting
 
+-- it is Markdown that is drawn
+abbrev pub is_markdown : Option Drawn → Bool
+is_markdown (Some drawn.Markdown) = true
+is_markdown other = false
+
+-- the setting says something of what is drawn: a width says nothing of Markdown, whose rows are lines
+abbrev pub says_something : Asked → Setting → Bool
+says_something asked setting.Width = not (is_markdown asked.drawn)
+says_something asked other = true
+
 -- two settings that contradict each other
 abbrev pub contradiction : Asked → Option (Setting × Setting)
 contradiction asked =
     option_and_then
-    (λ first. option_map (λ other. (first, other)) (find (λ s. is_set s asked && not (goes_with (written_of asked) s)) settings_of_forms))
+    (λ first. option_map (λ other. (first, other)) (find (λ s. is_set s asked && not (goes_with (written_of asked) s && says_something asked s)) settings_of_forms))
     (deciding asked)
 
 -- the setting whose value is lacking

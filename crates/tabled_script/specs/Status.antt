@@ -21,6 +21,18 @@ out_of_memory = 3
 abbrev pub failed : ℕ
 failed = 4
 
--- one of the program's statuses
+-- a table was written, and something was told of what was checked
+abbrev pub noted : ℕ
+noted = 5
+
+-- one of the statuses of a run
 abbrev pub IsStatus : ℕ → Type 0
 IsStatus status = (status ≡ done) ⊎ ((status ≡ faulty) ⊎ ((status ≡ out_of_memory) ⊎ (status ≡ failed)))
+
+-- one of the statuses of an answer
+abbrev pub IsAnswer : ℕ → Type 0
+IsAnswer status = IsStatus status ⊎ (status ≡ noted)
+
+-- a table was written
+abbrev pub IsDone : ℕ → Type 0
+IsDone status = (status ≡ done) ⊎ (status ≡ noted)

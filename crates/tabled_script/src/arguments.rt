@@ -3,7 +3,7 @@
 ghost use Rattle.std.specs.Option.{option_map};
 ghost use Rattle.std.specs.Prelude.{◌≡◌, ◌++◌, IfOk, OnOk, map};
 ghost use Rattle.std.specs.String.{string_bytes};
-ghost use Rattle.tabled_script.specs.Arguments.{file_named, has_taken, is_input, is_set, names_input, reads_input_again, set_to, step_ended, step_of, taken, with_dashed, with_first_value, with_option, with_option_and_value, with_value, with_word, words_of};
+ghost use Rattle.tabled_script.specs.Arguments.{file_named, has_taken, is_input, is_set, leaves_no_text, names_input, reads_input_again, set_to, step_ended, step_of, taken, text_of_word, with_dashed, with_first_value, with_option, with_option_and_value, with_value, with_word, words_of};
 ghost use Rattle.tabled_script.specs.Refusals.{IsRefused, Takes};
 ghost use Rattle.tabled_script.specs.Requests.{nothing_asked};
 ghost use Rattle.tabled_script.specs.Settings.{named_in, options};
@@ -290,7 +290,11 @@ impl Arguments {
             if self.step.is_empty() && read_by(word).is_some() {
                 return Err(misused(alloc, Misuse::FileAsStep, word));
             }
-            self.step.push(String::from_str(alloc, word)?)?;
+            if leaves_no_text(&self.step, word) {
+                return Err(misused(alloc, Misuse::NoColumns, word));
+            }
+            self.step
+                .push(String::from_str(alloc, text_of_word(word))?)?;
         }
         self.next = Next::Word;
         Ok(self)
@@ -314,6 +318,26 @@ pub(crate) fn push_step(steps: &mut Vec<Vec<String>>, step: Vec<String>) -> Resu
         steps.push(step)?;
     }
     Ok(())
+}
+
+/// The text that a word of a step stands for: `\\then` for `then`, which by itself ends a step.
+fn text_of_word(word: &str) -> &str
+    ensures { result.now ≡ text_of_word word.now }
+{
+    if word == "\\then" { "then" } else { word }
+}
+
+/// Says whether a word behind these is a width that has room for no text.
+fn leaves_no_text(step: &[String], word: &str) -> bool
+    ensures { result ≡ leaves_no_text (map string_bytes step.now) word.now }
+{
+    match step {
+        [verb] if verb.as_str() == "wrap" => match length_of(word) {
+            Some(width) => width == 0,
+            None => false,
+        },
+        _ => false,
+    }
 }
 
 /// The refusal of an argument, or of a part of it.

@@ -1,40 +1,136 @@
-//! Steps that are done one after another, and told where they name nothing.
+//! Steps that are done one after another, and told where they name or change nothing.
 
 ghost use Rattle.std.specs.Prelude.{◌≡◌, OnOk};
 ghost use Rattle.tabled_grid.specs.Grid.{IsEven, grid_of, map_items};
 ghost use Rattle.tabled_script.specs.InMemory.{state_in};
 ghost use Rattle.tabled_steps.specs.States.{after_all};
 
-use crate::telling::{Lines, tell_naming};
+use crate::notes::Notes;
+use crate::script_form::write_script;
+use crate::telling::{Doubt, Lines, doubt_line};
 use std::alloc::{AllocError, Global};
 use std::io::Write;
 use tabled_grid::config::SpannedConfig;
 use tabled_language::LentText;
+use tabled_settings::width::Width;
 use tabled_steps::{Step, run};
 
-/// Does steps as `run` does, and tells those that name nothing in their table: the lines of these numbers.
+/// Does steps as `run` does, and tells those that are doubtful: all that name or change nothing or leave no text, where
+/// steps are checked, and else those of the arguments that name nothing. The steps are of lines of these numbers.
 pub(crate) fn run_checked<E: Write>(
     alloc: Global,
     records: &mut Vec<Vec<LentText>>,
     spans: &mut SpannedConfig,
     steps: Vec<Step>,
     numbers: &[usize],
+    checks_steps: bool,
     lines: Lines,
-    errors: &mut E,
+    notes: &mut Notes<'_, E>,
 ) -> Result<(), AllocError>
     requires { IsEven (grid_of (map_items records.old.items)) }
     ensures well { IsEven (grid_of (map_items records.new.items)) }
     ensures state { OnOk result (state_in records.new.items spans.new ≡ after_all steps.items (state_in records.old.items spans.old)) }
 {
+    let script_end = lines.script_end();
     let mut numbers = numbers.iter();
     for step in steps {
         let number = numbers.next().copied().unwrap_or(0);
-        if step.names_nothing(alloc, records)? {
-            tell_naming(alloc, lines, number, errors);
-        }
+        let looks = checks_steps || script_end < number;
+        let look = Look::new(alloc, &step, records, spans, looks, checks_steps)?;
         if let Err((_, error)) = run(alloc, records, spans, vec![in alloc; step]?) {
             return Err(error);
         }
+        if let Some(doubt) = look.doubt(alloc, records, spans)? {
+            notes.tell(doubt_line(alloc, lines, number, doubt));
+        }
     }
     Ok(())
+}
+
+/// What was seen of a step and its table before it was done.
+#[derive(Drop)]
+struct Look {
+    doubt: Option<Doubt>,
+    /// The lines of the table, where it is asked for whether the step changes it.
+    table: Option<Vec<u8>>,
+}
+
+impl Look {
+    ghost use Rattle.tabled_grid.specs.Grid.{IsEven, grid_of, map_items};
+
+    /// Looks at a step, and at its table, where each is asked for.
+    fn new(
+        alloc: Global,
+        step: &Step,
+        records: &Vec<Vec<LentText>>,
+        spans: &SpannedConfig,
+        looks_at_step: bool,
+        looks_at_table: bool,
+    ) -> Result<Self, AllocError>
+        requires { IsEven (grid_of (map_items records.now.items)) }
+    {
+        let doubt = if looks_at_step {
+            doubt_of(alloc, step, records)?
+        } else {
+            None
+        };
+        let table = if looks_at_table && doubt.is_none() {
+            Some(printed(alloc, records, spans)?)
+        } else {
+            None
+        };
+        Ok(Look { doubt, table })
+    }
+
+    /// What is doubtful of the step, once it is done.
+    fn doubt(
+        self,
+        alloc: Global,
+        records: &Vec<Vec<LentText>>,
+        spans: &SpannedConfig,
+    ) -> Result<Option<Doubt>, AllocError>
+        requires { IsEven (grid_of (map_items records.now.items)) }
+    {
+        let Some(table) = self.table else {
+            return Ok(self.doubt);
+        };
+        if printed(alloc, records, spans)? == table {
+            return Ok(Some(Doubt::ChangesNothing));
+        }
+        Ok(None)
+    }
+}
+
+/// What is doubtful of a step before it is done.
+fn doubt_of(
+    alloc: Global,
+    step: &Step,
+    records: &Vec<Vec<LentText>>,
+) -> Result<Option<Doubt>, AllocError>
+    requires { IsEven (grid_of (map_items records.now.items)) }
+{
+    if step.names_nothing(alloc, records)? {
+        return Ok(Some(Doubt::NamesNothing));
+    }
+    match step {
+        Step::Wrap(wrap, _) if *wrap == Width::wrap(0).keep_words(true) => {
+            Ok(Some(Doubt::LeavesNoText))
+        }
+        _ => Ok(None),
+    }
+}
+
+/// The lines of a table, which are others where its texts or merged cells are.
+fn printed(
+    alloc: Global,
+    records: &Vec<Vec<LentText>>,
+    spans: &SpannedConfig,
+) -> Result<Vec<u8>, AllocError>
+    requires { IsEven (grid_of (map_items records.now.items)) }
+{
+    let mut lines = Vec::new(alloc);
+    match write_script(alloc, records, spans, &mut lines)? {
+        Ok(()) => Ok(lines),
+        Err(_) => Err(AllocError),
+    }
 }

@@ -11,6 +11,7 @@ ghost use Rattle.tabled_script.specs.Outcome.{Comes, ComesOfState};
 
 use crate::checked::run_checked;
 use crate::inputs::lent_words;
+use crate::notes::Notes;
 use crate::outcome::Outcome;
 use crate::request::Request;
 use crate::telling::Lines;
@@ -21,14 +22,14 @@ use tabled_language::{LentText, ParseError, Script, padded, parse_between};
 use tabled_steps::run;
 
 /// Reads the script of rows, bytes and the steps of a request, and writes the table that it ends with in the form that
-/// is asked for. Steps that name nothing are told where that is asked for.
+/// is asked for. Doubtful steps are told: those of the request, or all where that is asked for.
 pub(crate) fn run_between<W: Write, E: Write>(
     alloc: Global,
     request: &Request,
     rows: Vec<Vec<LentText>>,
     script: &[u8],
     writer: &mut W,
-    errors: &mut E,
+    notes: &mut Notes<'_, E>,
 ) -> Outcome
     ensures { Comes request.now.form (parse_between (texts_in_records rows.entry.items) script.now (cell_texts request.now.steps.items)) (W.contents writer.old) (W.contents writer.new) result }
 {
@@ -41,7 +42,7 @@ pub(crate) fn run_between<W: Write, E: Write>(
         return Outcome::OutOfMemory;
     };
     match parse_between(alloc, rows, script, words) {
-        Ok(script) => run_parsed(alloc, request, lines, script, writer, errors),
+        Ok(script) => run_parsed(alloc, request, lines, script, writer, notes),
         Err(ParseError::Faulty { line, fault }) => Outcome::Faulty(line, fault),
         Err(ParseError::OutOfMemory) => Outcome::OutOfMemory,
     }
@@ -54,11 +55,11 @@ fn run_parsed<W: Write, E: Write>(
     lines: Lines,
     script: Script,
     writer: &mut W,
-    errors: &mut E,
+    notes: &mut Notes<'_, E>,
 ) -> Outcome
     ensures { ComesOfState request.now.form (ended (said_by script.entry)) (W.contents writer.old) (W.contents writer.new) result }
 {
-    match state_at_end(alloc, request.checks_steps, lines, script, errors) {
+    match state_at_end(alloc, request.checks_steps, lines, script, notes) {
         Ok((records, spans)) => request.form.write(alloc, records, &spans, writer),
         Err(_) => Outcome::OutOfMemory,
     }
@@ -70,7 +71,7 @@ fn state_at_end<'a, E: Write>(
     checks_steps: bool,
     lines: Lines,
     script: Script<'a>,
-    errors: &mut E,
+    notes: &mut Notes<'_, E>,
 ) -> Result<(Vec<Vec<LentText<'a>>>, SpannedConfig), AllocError>
     ensures well { IfOk result (λ end. IsEven (grid_of (map_items end.0.items))) }
     ensures state { IfOk result (λ end. state_in end.0.items end.1 ≡ ended (said_by script.entry)) }
@@ -82,15 +83,17 @@ fn state_at_end<'a, E: Write>(
         step_lines,
     } = script;
     let mut records = padded(records)?;
-    if checks_steps {
+    let looks = checks_steps || !lines.steps.is_empty();
+    if looks {
         run_checked(
             alloc,
             &mut records,
             &mut spans,
             steps,
             &step_lines,
+            checks_steps,
             lines,
-            errors,
+            notes,
         )?;
         return Ok((records, spans));
     }

@@ -34,10 +34,11 @@ pub(crate) enum RowsError {
 /// Why rows don't stand behind others.
 #[derive(Drop)]
 pub(crate) enum JoinError<'a> {
-    /// Their first row isn't the head, which is the first row of those before.
+    /// Their first row isn't the head, which is the first row of those before, and of the file of an index.
     Differs {
         head: Vec<LentText<'a>>,
         first: Vec<LentText<'a>>,
+        of: usize,
     },
     OutOfMemory,
 }
@@ -75,9 +76,12 @@ pub(crate) fn rows_of_sources<'a>(
     let mut spare = Spare::new(room);
     let mut rows = Vec::new(alloc);
     let mut index = 0;
+    // The file whose first row is that of the rows.
+    let mut of = 0;
     for source in sources {
+        of = first_of(&rows, index, of);
         match rows_of(alloc, source, &mut spare) {
-            Ok(others) => match joined(rows, others) {
+            Ok(others) => match joined(rows, others, of) {
                 Ok(all) => rows = all,
                 Err(error) => return Err(SourcesError::Unjoined(index, error)),
             },
@@ -86,6 +90,11 @@ pub(crate) fn rows_of_sources<'a>(
         index += 1;
     }
     Ok(rows)
+}
+
+/// The file whose first row is that of rows, or that of an index, where there are none yet.
+fn first_of(rows: &[Vec<LentText>], index: usize, of: usize) -> usize {
+    if rows.is_empty() { index } else { of }
 }
 
 /// The rows of a file.
@@ -101,10 +110,11 @@ fn rows_of<'a>(
     }
 }
 
-/// Rows and others behind them, without the first one of these, if it is that of the rows.
+/// Rows and others behind them, without the first one of these, if it is that of the rows, and of the file of an index.
 fn joined<'a>(
     rows: Vec<Vec<LentText<'a>>>,
     others: Vec<Vec<LentText<'a>>>,
+    of: usize,
 ) -> Result<Vec<Vec<LentText<'a>>>, JoinError<'a>>
     ensures { MatchResult result (λ all. behind (texts_in_records rows.entry.items) (texts_in_records others.entry.items) ≡ Some (texts_in_records all.items)) (NotBehind (texts_in_records rows.entry.items) (texts_in_records others.entry.items)) }
 {
@@ -118,7 +128,7 @@ fn joined<'a>(
     let mut all = rows;
     if !is_same_row(&all[0], &first) {
         let head = all.swap_remove(0);
-        return Err(JoinError::Differs { head, first });
+        return Err(JoinError::Differs { head, first, of });
     }
     for row in rest {
         if all.push(row).is_err() {

@@ -5,7 +5,7 @@ ghost use Rattle.std.specs.Option.{option_map, unwrap_or};
 ghost use Rattle.std.specs.Prelude.{◌≡◌, ◌++◌, ◌&&◌, ◌==◌, [], IfErr, IfOk, None, length, map, not};
 ghost use Rattle.std.specs.String.{string_bytes};
 ghost use Rattle.tabled_script.specs.Arguments.{is_set, named_files, step_of, words_of};
-ghost use Rattle.tabled_script.specs.Requests.{IsForm, IsUnmade, awaited, contradiction, deciding, drawn_of, files_of, format_of, goes_with, named_source, says_html, script_of, separator_of, settings_of_forms, to_separator_of, unread_files, writing_of, width_of, written_of};
+ghost use Rattle.tabled_script.specs.Requests.{IsForm, IsUnmade, awaited, contradiction, deciding, drawn_of, files_of, format_of, goes_with, named_source, says_html, says_something, script_of, separator_of, settings_of_forms, to_separator_of, unread_files, writing_of, width_of, written_of};
 
 use crate::arguments::{Arguments, Next, push_step};
 use crate::form::Form;
@@ -191,12 +191,22 @@ impl Arguments {
         Some((first, other))
     }
 
-    /// The first setting that doesn't go with what is written so.
+    /// The first setting that doesn't go with what is written so, or says nothing of it.
     fn misfit(&self, written: Written) -> Option<Setting>
-        ensures { result ≡ find (λ s. is_set s self.now && not (goes_with written s)) settings_of_forms }
+        ensures { result ≡ find (λ s. is_set s self.now && not (goes_with written s && says_something self.now s)) settings_of_forms }
     {
         SETTINGS_OF_FORMS.iter().copied().find(|setting| self.is_set(*setting)
-            && !goes_with(written, *setting))
+            && !(goes_with(written, *setting) && self.says_something(*setting)))
+    }
+
+    /// Says whether a setting says something of what is drawn: a width says nothing of Markdown, whose rows are lines.
+    fn says_something(&self, setting: Setting) -> bool
+        ensures { result ≡ says_something self.now setting }
+    {
+        match setting {
+            Setting::Width => !matches!(self.drawn, Some(Drawn::Markdown)),
+            _ => true,
+        }
     }
 }
 

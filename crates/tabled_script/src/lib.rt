@@ -15,6 +15,7 @@ pub mod laws;
 mod limits;
 mod message;
 mod narrow;
+mod notes;
 mod outcome;
 mod picture;
 mod program;

@@ -4,18 +4,28 @@ use std::alloc::{AllocError, Global};
 use tabled_help::{ENTRIES, WAYS, WORDS, nearest, way_of};
 use tabled_language::Fault;
 
-/// What is wrong with a line whose words are these, where the one of an index is at fault, and what may be meant.
+/// How the text that ends steps is written as one of their words.
+const THEN: &str = "; a text 'then' is written '\\then'";
+
+/// What is wrong with a line whose words are these, where the one of an index is at fault, and what may be meant: also the
+/// text `then`, where that ended this step or the one before.
 pub(crate) fn complaint(
     alloc: Global,
     fault: Fault,
     words: &[String],
     at: usize,
+    is_beside_then: bool,
 ) -> Result<String, AllocError> {
     let verb = word_at(words, 0);
     let word = word_at(words, at);
     let mut told = String::new(alloc);
     match fault {
-        Fault::UnknownWord => push_unknown(alloc, &mut told, verb, word)?,
+        Fault::UnknownWord => {
+            let is_known = push_unknown(alloc, &mut told, verb, word)?;
+            if is_beside_then && at == 0 && !is_known {
+                told.push_str(THEN)?;
+            }
+        }
         Fault::WordCount if at < words.len() => {
             push_quoted(&mut told, word)?;
             told.push_str(" is left over: ")?;
@@ -32,6 +42,9 @@ pub(crate) fn complaint(
             push_quoted(&mut told, word_at(words, words.len().saturating_sub(1)))?;
             told.push_str(": ")?;
             push_help(&mut told, verb)?;
+            if is_beside_then {
+                told.push_str(THEN)?;
+            }
         }
         Fault::NumberRange => {
             push_quoted(&mut told, word)?;
@@ -68,51 +81,76 @@ fn word_at(words: &[String], index: usize) -> &str {
     }
 }
 
-/// Adds what is told of a word that can't stand where it does.
+/// Adds what is told of a word that can't stand where it does, and says whether it is known what may be meant.
 fn push_unknown(
     alloc: Global,
     told: &mut String,
     verb: &str,
     word: &str,
-) -> Result<(), AllocError> {
+) -> Result<bool, AllocError> {
     push_quoted(told, word)?;
     let lower = word.to_lowercase(alloc)?;
     if let Some(way) = way_of(lower.as_str(), &WAYS) {
         told.push_str(" is no word here: ")?;
-        return told.push_str(way.way);
+        told.push_str(way.way)?;
+        return Ok(true);
     }
     told.push_str(" is no word that can stand here")?;
     if word.ends_with('\r') {
-        return told.push_str(
+        told.push_str(
             ": the line ends with a carriage return, and is to end with a newline alone",
-        );
+        )?;
+        return Ok(true);
     }
     if word.starts_with('-') {
-        return told.push_str(": options stand before the steps");
+        told.push_str(": options stand before the steps")?;
+        return Ok(true);
     }
     if lower.ends_with(".csv") || lower.ends_with(".tsv") {
         told.push_str(": a file is read by --csv ")?;
-        return told.push_str(word);
+        told.push_str(word)?;
+        return Ok(true);
     }
     if word.contains(' ') {
-        return told.push_str(
-            ": single tabs part words, or, among arguments, blanks outside of quotes",
-        );
+        told.push_str(": single tabs part words, or, among arguments, blanks outside of quotes")?;
+        return Ok(true);
     }
     if word.contains(',') {
-        return told.push_str(": CSV is read by --csv FILE, and from standard input by --csv -");
+        told.push_str(": CSV is read by --csv FILE, and from standard input by --csv -")?;
+        return Ok(true);
+    }
+    if let Some(meant) = meant_behind(verb, word) {
+        told.push_str("; maybe ")?;
+        told.push_str(meant)?;
+        told.push_str(" is meant")?;
+        return Ok(true);
     }
     if WORDS.contains(&word) {
         told.push_str(": ")?;
-        return push_help(told, verb);
+        push_help(told, verb)?;
+        return Ok(true);
     }
     match nearest(lower.as_str(), &WORDS) {
         Some(meant) => {
             told.push_str("; maybe ")?;
             told.push_str(meant)?;
-            told.push_str(" is meant")
+            told.push_str(" is meant")?;
+            Ok(true)
         }
-        None => told.push_str(": --help lists all words"),
+        None => {
+            told.push_str(": --help lists all words")?;
+            Ok(false)
+        }
+    }
+}
+
+/// What may be meant by a word behind a verb where it is one of other verbs.
+fn meant_behind(verb: &str, word: &str) -> Option<&'static str> {
+    match (verb, word) {
+        ("remove", "name") => Some("remove named NAME"),
+        ("remove", "row") => Some("remove rows A B"),
+        ("remove", "column") => Some("remove columns A B"),
+        _ => None,
     }
 }
 

@@ -1,7 +1,7 @@
 //! What comes of a script, and the status that stands for it.
 
 ghost use Rattle.std.specs.Prelude.{◌≡◌};
-ghost use Rattle.tabled_script.specs.Outcome.{outcome_of_drawing, outcome_of_writing, status_of};
+ghost use Rattle.tabled_script.specs.Outcome.{outcome_of_drawing, outcome_of_writing, status_of, status_with_notes};
 
 use crate::picture::TooNarrow;
 use std::alloc::AllocError;
@@ -19,6 +19,9 @@ pub(crate) const OUT_OF_MEMORY: u8 = 3;
 
 /// Reading or writing failed.
 pub(crate) const FAILED: u8 = 4;
+
+/// The table was written, and something was told of what was checked.
+pub(crate) const NOTED: u8 = 5;
 
 /// What comes of a script.
 #[derive(Clone, Copy)]
@@ -56,6 +59,16 @@ impl Outcome {
             Ok(Ok(Err(_))) => Outcome::Failed,
             Ok(Err(narrow)) => Outcome::TooNarrow(narrow),
             Err(_) => Outcome::OutOfMemory,
+        }
+    }
+
+    /// The status of an answer, by whether something was told of what was checked.
+    pub(crate) fn status_with_notes(self, has_notes: bool) -> u8
+        ensures { result ≡ status_with_notes self has_notes }
+    {
+        match self {
+            Outcome::Written if has_notes => NOTED,
+            _ => self.status(),
         }
     }
 

@@ -7,7 +7,7 @@ ghost use Rattle.tabled_script.specs.Again.{FitsAtEnd, GivesAgain};
 ghost use Rattle.tabled_script.specs.Answer.{ShowsState, ended, fault_line, memory_line, output_of, picture_of};
 ghost use Rattle.tabled_script.specs.Inputs.{HasTable};
 ghost use Rattle.tabled_script.specs.Outcome.{Ends, EndsBy, FindsNoTable, ShowsNoTable, ShowsTable};
-ghost use Rattle.tabled_script.specs.Status.{IsStatus, done, faulty, out_of_memory};
+ghost use Rattle.tabled_script.specs.Status.{IsAnswer, IsDone, IsStatus, done, faulty, out_of_memory};
 ghost use Rattle.tabled_language.specs.Parsing.{cell_texts};
 ghost use Rattle.tabled_language.specs.Script.{Script as Meaning, parse, parse_between};
 ghost use Rattle.tabled_language.specs.declared.fault.Fault.{Fault};
@@ -15,10 +15,11 @@ ghost use Rattle.tabled_language.specs.declared.fault.Fault.{Fault};
 use crate::ending::run_between;
 use crate::form::Form;
 use crate::inputs::rows_of_sources;
+use crate::notes::Notes;
 use crate::outcome::{FAILED, FAULTY, OUT_OF_MEMORY, Outcome};
 use crate::reading::{Unread, read_whole};
 use crate::request::Request;
-use crate::telling::{Lines, tell_outcome, tell_sources_error, tell_status};
+use crate::telling::{Lines, tell_outcome, tell_ragged, tell_sources_error, tell_status};
 use std::alloc::{AllocError, Global};
 use std::io::{self, Read, Write};
 use tabled_csv::Room;
@@ -77,13 +78,15 @@ pub fn draw_script<R: Read, W: Write>(alloc: Global, reader: &mut R, writer: &mu
 ///   request is faulty; or no picture is as narrow as is asked for. Nothing was written.
 /// - 3: memory ran out, and nothing was written.
 /// - 4: writing failed, and nothing is said of what was written.
+/// - 5: the table was written, and what was checked is doubtful, as was told.
 ///
 /// Nothing is written but the table. What else there is to tell, but why writing failed, goes to `errors`, in a line or two each; where that can't
 /// be written, or memory runs out, the answer is the same. A fault is told as that of `line N` of the script, of `step N`
 /// of the request, or of a line of a file, with its likely cure and the words of the line; first rows that differ with
-/// both; a picture that can't be as narrow with the columns that it takes. Where steps are checked, `names nothing in the
-/// table:` is told with the words of each step with a selector that names no cell of the table before it, or whose range
-/// lies outside.
+/// both; a picture that can't be as narrow with the columns that it takes. Of a step of the request with a selector that
+/// names no cell of the table before it, or whose range lies outside, `names nothing in the table:` is told with its words.
+/// Where steps are checked, this is told of those of the script, too, and of each step that it changes nothing, and of
+/// files whose rows have not all as many texts as the first; the status is 5 then.
 ///
 /// Of this project.
 pub fn answer<W: Write, E: Write>(
@@ -93,8 +96,8 @@ pub fn answer<W: Write, E: Write>(
     writer: &mut W,
     errors: &mut E,
 ) -> u8
-    ensures known { IsStatus result }
-    ensures done { result ≡ done →
+    ensures known { IsAnswer result }
+    ensures done { IsDone result →
         (rows : List (List (List ℕ))) × HasTable request.now.sources.items rows
         × (meaning : Meaning) × (parse_between rows script.now (cell_texts request.now.steps.items) ≡ Ok meaning)
         × ShowsState request.now.form (ended meaning) (W.contents writer.old) (W.contents writer.new) }
@@ -116,9 +119,11 @@ pub fn answer<W: Write, E: Write>(
                 script,
                 steps: &request.steps,
             };
-            let outcome = run_between(alloc, request, rows, script, writer, errors);
-            tell_outcome(alloc, lines, outcome, errors);
-            outcome.status()
+            let mut notes = Notes::new(errors);
+            tell_ragged(alloc, request, &rows, &mut notes);
+            let outcome = run_between(alloc, request, rows, script, writer, &mut notes);
+            tell_outcome(alloc, lines, outcome, notes.errors);
+            outcome.status_with_notes(request.checks_steps && notes.has_notes)
         }
         Err(error) => {
             tell_sources_error(alloc, sources, &error, errors);
@@ -139,7 +144,9 @@ fn run_to_form<R: Read, W: Write>(alloc: Global, form: Form, reader: &mut R, wri
         Ok(script) => {
             let request = Request::new(alloc, form);
             let rows = Vec::new(alloc);
-            let outcome = run_between(alloc, &request, rows, &script, writer, &mut io::sink());
+            let mut sink = io::sink();
+            let mut notes = Notes::new(&mut sink);
+            let outcome = run_between(alloc, &request, rows, &script, writer, &mut notes);
             write_end(alloc, outcome, writer)
         }
         Err(Unread::Failed(_)) => FAILED,

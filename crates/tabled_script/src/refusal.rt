@@ -54,6 +54,8 @@ pub enum Misuse {
     InputRepeated,
     /// A step begins with the name of a file.
     FileAsStep,
+    /// Texts can't be wrapped to no columns.
+    NoColumns,
 }
 
 /// Why a file can't be read or written.
@@ -181,6 +183,9 @@ fn misuse_text(alloc: Global, misuse: Misuse, argument: &str) -> Result<String, 
             format!(in alloc; "standard input is read once: - stands here twice")
         }
         Misuse::FileAsStep => file_text(alloc, argument),
+        Misuse::NoColumns => format!(in alloc;
+            "wrap {argument} would leave no text: it takes a width of 1 or more"
+        ),
     }
 }
 

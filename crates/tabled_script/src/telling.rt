@@ -2,8 +2,9 @@
 
 use crate::inputs::{JoinError, RowsError, SourceFault, SourcesError, lent_step};
 use crate::message::{complaint, push_quoted};
+use crate::notes::Notes;
 use crate::outcome::{FAILED, OUT_OF_MEMORY, Outcome};
-use crate::request::Source;
+use crate::request::{Request, Source};
 use std::alloc::{AllocError, Global};
 use std::io::Write;
 use tabled_grid::records::CellText;
@@ -23,7 +24,31 @@ pub(crate) struct Lines<'s, 'r> {
     pub(crate) steps: &'r [Vec<String>],
 }
 
+/// What is doubtful of a step.
+#[derive(Clone, Copy)]
+pub(crate) enum Doubt {
+    NamesNothing,
+    ChangesNothing,
+    /// It wraps texts to no column.
+    LeavesNoText,
+}
+
+impl Doubt {
+    fn text(self) -> &'static str {
+        match self {
+            Doubt::NamesNothing => "names nothing in the table:",
+            Doubt::ChangesNothing => "changes nothing in the table:",
+            Doubt::LeavesNoText => "leaves no text, since a width of 0 has room for none:",
+        }
+    }
+}
+
 impl<'s, 'r> Lines<'s, 'r> {
+    /// The number of the last line of the script: the steps of arguments stand behind it.
+    pub(crate) fn script_end(&self) -> usize {
+        self.rows.saturating_add(count_lines(self.script))
+    }
+
     /// Where the line of a number stands.
     fn origin(&self, number: usize) -> Origin {
         origin_of(self.rows, count_lines(self.script), number)
@@ -33,6 +58,15 @@ impl<'s, 'r> Lines<'s, 'r> {
     fn line(&self, number: usize) -> &'s [u8] {
         let mut lines = self.script.split(|byte| *byte == b'\n');
         lines.nth(number.saturating_sub(1)).unwrap_or(&[])
+    }
+
+    /// Says whether a faulty line is a step that `then` ended, or one behind it: the text may have been meant.
+    fn is_beside_then(&self, origin: Origin, fault: Fault) -> bool {
+        match (origin, fault) {
+            (Origin::Words(number), Fault::WordCount) => number < self.steps.len(),
+            (Origin::Words(number), Fault::UnknownWord) => 1 < number,
+            _ => false,
+        }
     }
 
     /// The words of a step, by its number.
@@ -136,11 +170,6 @@ pub(crate) fn tell_outcome<E: Write>(
     }
 }
 
-/// Tells of a line that it names nothing in its table.
-pub(crate) fn tell_naming<E: Write>(alloc: Global, lines: Lines, number: usize, errors: &mut E) {
-    tell(naming_line(alloc, lines, number), errors);
-}
-
 /// Tells why files have no table: where one is faulty and what is wrong there, or which first rows differ.
 pub(crate) fn tell_sources_error<E: Write>(
     alloc: Global,
@@ -150,19 +179,38 @@ pub(crate) fn tell_sources_error<E: Write>(
 ) {
     match error {
         SourcesError::Unread(index, RowsError::Faulty { line, fault }) => {
-            tell(
-                source_fault_line(alloc, name_of(sources, *index), *line, *fault),
-                errors,
-            );
+            if let Some(source) = sources.get(*index) {
+                tell(source_fault_line(alloc, source, *line, *fault), errors);
+            }
         }
-        SourcesError::Unjoined(index, JoinError::Differs { head, first }) => {
-            tell(
-                difference_lines(alloc, name_of(sources, *index), head, first),
-                errors,
-            );
+        SourcesError::Unjoined(index, JoinError::Differs { head, first, of }) => {
+            let names = (name_of(sources, *index), name_of(sources, *of));
+            tell(difference_lines(alloc, names, head, first), errors);
         }
         SourcesError::Unread(_, RowsError::OutOfMemory)
         | SourcesError::Unjoined(_, JoinError::OutOfMemory) => tell_status(OUT_OF_MEMORY, errors),
+    }
+}
+
+/// Tells that the rows of files have not all as many texts as the first one, if that is so and is checked.
+pub(crate) fn tell_ragged<E: Write>(
+    alloc: Global,
+    request: &Request,
+    rows: &[Vec<LentText>],
+    notes: &mut Notes<'_, E>,
+) {
+    let Some(first) = rows.first() else {
+        return;
+    };
+    let wide = first.len();
+    let others = rows.iter().filter(|row| row.len() != wide).count();
+    if request.checks_steps && 0 < others {
+        let place = rows.iter().position(|row| row.len() != wide).unwrap_or(0);
+        let number = place.saturating_add(1);
+        let name = name_of(&request.sources, 0);
+        notes.tell(format!(in alloc;
+            "tabled_script: {name}: the first row has {wide} texts, and row {number} another number of them; rows that differ from the first: {others}\n"
+        ));
     }
 }
 
@@ -198,7 +246,8 @@ fn fault_lines(
     let at = lines.faulty_word(alloc, origin)?;
     let words = lines.words(alloc, origin)?;
     let mut told = begun(alloc, origin)?;
-    let complaint = complaint(alloc, fault, &words.words, at)?;
+    let is_beside_then = lines.is_beside_then(origin, fault);
+    let complaint = complaint(alloc, fault, &words.words, at, is_beside_then)?;
     let number = fault.number();
     told.push_str(complaint.as_str())?;
     let explained = format!(in alloc; " (fault {number}: --explain {number})\n  in:")?;
@@ -208,11 +257,16 @@ fn fault_lines(
     Ok(told)
 }
 
-/// A line that says where a line stands that names nothing in its table, and its words.
-fn naming_line(alloc: Global, lines: Lines, number: usize) -> Result<String, AllocError> {
+/// A line that says where a step stands and what is doubtful of it, and its words.
+pub(crate) fn doubt_line(
+    alloc: Global,
+    lines: Lines,
+    number: usize,
+    doubt: Doubt,
+) -> Result<String, AllocError> {
     let origin = lines.origin(number);
     let mut told = begun(alloc, origin)?;
-    told.push_str("names nothing in the table:")?;
+    told.push_str(doubt.text())?;
     lines.words(alloc, origin)?.push_to(&mut told)?;
     told.push('\n')?;
     Ok(told)
@@ -238,29 +292,42 @@ fn name_of(sources: &[Source], index: usize) -> &str {
 /// A line that says in which line of a file what is wrong, and its likely cure.
 fn source_fault_line(
     alloc: Global,
-    name: &str,
+    source: &Source,
     line: usize,
     fault: SourceFault,
 ) -> Result<String, AllocError> {
+    let name = source.name.as_str();
     match fault {
-        SourceFault::Csv(tabled_csv::Fault::NotUtf8) => format!(in alloc;
-            "tabled_script: {name}: line {line}: a field is not UTF-8: 'iconv -f LATIN1 -t UTF-8' makes it of Latin-1\n"
-        ),
+        SourceFault::Csv(tabled_csv::Fault::NotUtf8) => {
+            let encoding = likely_encoding(&source.bytes);
+            format!(in alloc;
+                "tabled_script: {name}: line {line}: a field is not UTF-8: 'iconv -f {encoding} -t UTF-8' makes it of {encoding}\n"
+            )
+        }
         SourceFault::Csv(fault) => {
             format!(in alloc; "tabled_script: {name}: line {line}: {fault}\n")
         }
     }
 }
 
-/// A line that says that a file begins with another row than those before, and one with both rows.
+/// How bytes that aren't UTF-8 are likely encoded: UTF-16 begins with its mark.
+fn likely_encoding(bytes: &[u8]) -> &'static str {
+    match bytes {
+        [0xFF, 0xFE, ..] | [0xFE, 0xFF, ..] => "UTF-16",
+        _ => "LATIN1",
+    }
+}
+
+/// A line that says that a file begins with another row than one before it, and one with both rows.
 fn difference_lines(
     alloc: Global,
-    name: &str,
+    names: (&str, &str),
     head: &[LentText],
     first: &[LentText],
 ) -> Result<String, AllocError> {
+    let (name, other) = names;
     let mut told = format!(in alloc;
-        "tabled_script: {name}: its first row is not that of the files before it\n "
+        "tabled_script: {name}: its first row is not that of {other}\n "
     )?;
     told_texts(alloc, first)?.push_to(&mut told)?;
     told.push_str(" in place of")?;

@@ -251,9 +251,10 @@ fn arguments_ask_for_steps_and_forms(rt: HostRuntime) -> Result<(), Fail> {
             "--check|remove|rows|1|9|then|remove|columns|9|10|then|remove|named|b|then|extract|0|1|1|1",
             "",
             "row\ta\n\nset\tcell\t1\t0\tx\nset\tall\ta\ndup\tall\tcontent\tx\ndup\trow\t2\tall\nclean\tcolumn\t1\ntabs\t1\tnot\tall\tall\ncspan\t2\tlast-row-plus\t1\nrspan\t2\tskip\t1\tframe\nremove\tnamed\tb\nheader\th\n",
-            0,
+            5,
             "shape\t1\t0\nrow\n",
             "tabled_script: line 3: names nothing in the table: 'set' 'cell' '1' '0' 'x'\n\
+             tabled_script: line 4: changes nothing in the table: 'set' 'all' 'a'\n\
              tabled_script: line 5: names nothing in the table: 'dup' 'all' 'content' 'x'\n\
              tabled_script: line 6: names nothing in the table: 'dup' 'row' '2' 'all'\n\
              tabled_script: line 7: names nothing in the table: 'clean' 'column' '1'\n\
@@ -264,6 +265,72 @@ fn arguments_ask_for_steps_and_forms(rt: HostRuntime) -> Result<(), Fail> {
              tabled_script: step 2: names nothing in the table: 'remove' 'columns' '9' '10'\n\
              tabled_script: step 3: names nothing in the table: 'remove' 'named' 'b'\n\
              tabled_script: step 4: names nothing in the table: 'extract' '0' '1' '1' '1'\n",
+        ),
+        // Each kind of step that may change nothing.
+        (
+            "--check|hpanel|9|z|then|split|column|9|zip|retain|then|reverse|rows|5|end|0|then|cspan|2|cell|0|3|then|cspan|1|cell|0|0|then|vmerge|then|set|all|b",
+            "",
+            "row\ta",
+            5,
+            "shape\t1\t1\nrow\tb\n",
+            "tabled_script: step 1: changes nothing in the table: 'hpanel' '9' 'z'\n\
+             tabled_script: step 2: changes nothing in the table: 'split' 'column' '9' 'zip' 'retain'\n\
+             tabled_script: step 3: changes nothing in the table: 'reverse' 'rows' '5' 'end' '0'\n\
+             tabled_script: step 4: names nothing in the table: 'cspan' '2' 'cell' '0' '3'\n\
+             tabled_script: step 5: changes nothing in the table: 'cspan' '1' 'cell' '0' '0'\n\
+             tabled_script: step 6: changes nothing in the table: 'vmerge'\n",
+        ),
+        // A step that makes a merged cell changes the table; a width of 0 leaves no text.
+        (
+            "--check|merge|vertical|all|then|set|all|c",
+            "",
+            "row\ta\nrow\ta\nwrap\t0\tall\n",
+            5,
+            "shape\t2\t1\nrow\tc\nrow\tc\nspan\t0\t0\t2\t1\n",
+            "tabled_script: line 3: leaves no text, since a width of 0 has room for none: 'wrap' '0' 'all'\n",
+        ),
+        // Where nothing is doubtful, the status says so.
+        (
+            "--check|set|cell|0|0|b|then|rotate|left",
+            "",
+            "row\ta\tc\n",
+            0,
+            "shape\t2\t1\nrow\tc\nrow\tb\n",
+            "",
+        ),
+        (
+            "--check|--csv|f|--to|csv",
+            "a,b\n1,2\n3\n4,5,6\n",
+            "",
+            5,
+            "a,b,\n1,2,\n3,,\n4,5,6\n",
+            "tabled_script: f: the first row has 2 texts, and row 3 another number of them; rows that differ from the first: 2\n",
+        ),
+        // Steps of the arguments that name nothing are told without that, and steps of the script aren't.
+        (
+            "header|h|then|remove|named|a|then|hpanel|9|z",
+            "",
+            "row\ta\nset\tcell\t9\t9\tx\n",
+            0,
+            "shape\t2\t1\nrow\th\nrow\ta\n",
+            "tabled_script: step 2: names nothing in the table: 'remove' 'named' 'a'\n",
+        ),
+        // A word that ends steps, as a text.
+        (
+            "row|\\then|then|row|\\\\then",
+            "",
+            "",
+            0,
+            "shape\t2\t1\nrow\tthen\nrow\t\\\\\\\\then\n",
+            "",
+        ),
+        (
+            "set|all|then|row|b",
+            "",
+            "row\ta",
+            2,
+            "",
+            "tabled_script: step 1: a word is missing behind 'all': see --help set; a text 'then' is written '\\then' (fault 2: --explain 2)\n  in: 'set' 'all'\n",
         ),
         // Rows of a file stand before those of a script, whose lines keep their numbers.
         (
@@ -381,6 +448,18 @@ fn what_cannot_be_asked_is_refused(rt: HostRuntime) -> Result<(), Fail> {
         (
             "--csv|f|row|f.csv|then|g.tsv",
             "g.tsv is a file: --separator tab --csv g.tsv",
+        ),
+        (
+            "wrap|0|all",
+            "wrap 0 would leave no text: it takes a width of 1 or more",
+        ),
+        (
+            "vmerge|then|wrap|00|all",
+            "wrap 00 would leave no text: it takes a width of 1 or more",
+        ),
+        (
+            "--style|markdown|--width|9",
+            "--style and --width contradict each other",
         ),
         (
             "--to|csv|--style|modern",

@@ -69,7 +69,7 @@ fn rows_of_files_stand_one_behind_another(rt: HostRuntime) -> Result<(), Fail> {
             "",
             2,
             "",
-            "tabled_script: b: its first row is not that of the files before it\n  'm' in place of 'n'\n",
+            "tabled_script: b: its first row is not that of a\n  'm' in place of 'n'\n",
         ),
         (
             "a=n,m\n|b=n,m\n|c=n,o\n",
@@ -77,7 +77,7 @@ fn rows_of_files_stand_one_behind_another(rt: HostRuntime) -> Result<(), Fail> {
             "",
             2,
             "",
-            "tabled_script: c: its first row is not that of the files before it\n  'n' 'o' in place of 'n' 'm'\n",
+            "tabled_script: c: its first row is not that of a\n  'n' 'o' in place of 'n' 'm'\n",
         ),
         (
             "a=n,m\n|b=n\n",
@@ -85,7 +85,16 @@ fn rows_of_files_stand_one_behind_another(rt: HostRuntime) -> Result<(), Fail> {
             "",
             2,
             "",
-            "tabled_script: b: its first row is not that of the files before it\n  'n' in place of 'n' 'm'\n",
+            "tabled_script: b: its first row is not that of a\n  'n' in place of 'n' 'm'\n",
+        ),
+        // The file that began is named, and one without rows isn't.
+        (
+            "a=\n|b=n\n|c=n\n|d=m\n",
+            "",
+            "",
+            2,
+            "",
+            "tabled_script: d: its first row is not that of b\n  'm' in place of 'n'\n",
         ),
         // A file is faulty; the one before it has another first row than it.
         (
@@ -154,7 +163,7 @@ fn a_file_in_another_encoding_has_a_cure(rt: HostRuntime) -> Result<(), Fail> {
     assert_eq!(rt; answer(alloc, &request, b"", &mut written, &mut errors), 2);
     assert!(rt; written.is_empty());
     let told =
-        "tabled_script: f: line 2: a field is not UTF-8: 'iconv -f LATIN1 -t UTF-8' makes it of Latin-1\n";
+        "tabled_script: f: line 2: a field is not UTF-8: 'iconv -f LATIN1 -t UTF-8' makes it of LATIN1\n";
     assert_eq!(rt; errors.as_slice(), told.as_bytes());
     Ok(())
 }
