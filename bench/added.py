@@ -1,13 +1,17 @@
-"""What `wrap` and `merge` mean, which are of this project, for a program that doesn't know these two words.
+"""What words mean that are of this project, for a program that doesn't know them: `wrap`, `truncate`, `replace`, `merge`,
+`keep` and `sort`.
 
-Both are said by lines that it knows: the texts of `wrap` by `set`, the merged cells of `merge` by `cspan` and `rspan`. What
-they are is said here anew, after crates/tabled_settings/specs/Wraps.antt and crates/tabled_spans/specs/Runs.antt. Which
-cells a selector names that program is asked itself.
+They are said by lines that it knows: the texts of the first three by `set`, the merged cells of `merge` by `cspan` and
+`rspan`, the tables of `keep` and `sort` (kept.py) by both. What they are is said here anew, after
+crates/tabled_width/specs/Wraps.antt, crates/tabled_settings/specs/Truncates.antt and Replaced.antt, and
+crates/tabled_spans/specs/Runs.antt. Which cells a selector names that program is asked itself.
 """
 
 import unicodedata
 
-WORDS = b"wrap", b"merge"
+import kept
+
+WORDS = b"wrap", b"truncate", b"replace", b"merge", *kept.VERBS
 SIDES = b"vertical", b"horizontal"
 WAYS = b"left", b"right", b"top", b"bottom"  # after `rotate`
 LARGEST = b"10000"  # number of a script
@@ -23,17 +27,21 @@ def is_added(line):
 
 
 def with_same_faults(line):
-    """A line that the other program knows, faulty where a line of `wrap` or `merge` is, and alike."""
+    """A line that the other program knows, faulty where a line of these words is, and alike."""
     word, *rest = line.split(b"\t")
-    if word == b"wrap":
+    if word in kept.VERBS:
+        return kept.with_same_fault(word, rest)
+    if word in (b"wrap", b"truncate"):
         return b"\t".join([b"tabs", *rest])
+    if word == b"replace":
+        return b"\t".join([b"dup", b"content", *[b"-".join(rest[:2])] * bool(rest), *rest[2:]])
     if rest[:1] and rest[0] in SIDES:
         return b"\t".join([b"clean", *rest[1:]])
     return b"\t".join([b"rotate", *[b"spin" if it in WAYS else it for it in rest[:1]], *rest[1:]])
 
 
 def knowing(run):
-    """The answers of a program to faulty scripts with the two words, and that it doesn't know what others mean."""
+    """The answers of a program to faulty scripts with these words, and that it doesn't know what others mean."""
 
     def answer(script):
         lines = script.split(b"\n")
@@ -113,6 +121,23 @@ def wrapped(n, text):
     return "\n".join(wrapped_line(n, it) for it in fitted.split("\n")) if n > 0 else ""
 
 
+def truncated_line(n, line):
+    """A line of more than n columns cut so that an ellipsis, of one column, fits behind what stays."""
+    if columns_in(line) <= n:
+        return line
+    kept, room = "", n - 1
+    for it in line:
+        room -= columns_of(it)
+        if room < 0:
+            break
+        kept += it
+    return kept + "\N{HORIZONTAL ELLIPSIS}" if n > 0 else ""
+
+
+def truncated(n, text):
+    return "\n".join(truncated_line(n, it) for it in text.split("\n"))
+
+
 def unescaped(word):
     parts, rest = [], word.decode()
     while rest:
@@ -126,15 +151,27 @@ def escaped(text):
     return "".join(ESCAPES.get(it, it) for it in text).encode()
 
 
-def wrap_by_set(before, words, run):
-    """`wrap` is said by a `set` for each cell whose text it cuts."""
-    if words[0] != b"wrap":
+def rewriting(words):
+    """What a line makes of a text, and its selector; None where it isn't one that writes texts."""
+    if words[0] in (b"wrap", b"truncate"):
+        cut = wrapped if words[0] == b"wrap" else truncated
+        return lambda text: cut(int(words[1]), text), words[2:]
+    if words[0] == b"replace":
+        part, new = map(unescaped, words[1:3])
+        return lambda text: text.replace(part, new) if part else text, words[3:]
+    return None
+
+
+def texts_by_set(before, words, run):
+    """What writes texts is said by a `set` for each cell whose text it changes."""
+    if not rewriting(words):
         return None
-    cells, lines = named_cells(before, words[2:], run), []
+    new, selector = rewriting(words)
+    cells, lines = named_cells(before, selector, run), []
     if cells is None:
         return None
     for i, j in sorted(cells):
-        text = escaped(wrapped(int(words[1]), unescaped(before.texts[i][j])))
+        text = escaped(new(unescaped(before.texts[i][j])))
         if text != before.texts[i][j]:
             lines.append(b"set\tcell\t%d\t%d\t%b" % (i, j, text))
     return b"\n".join(lines)
@@ -179,7 +216,12 @@ def merge_by_spans(before, words, run):
     return b"\n".join(lines)
 
 
-SAID = [wrap_by_set, merge_by_spans]
+def kept_by_set(before, words, run):
+    """`keep` and `sort` are said by the table that they make."""
+    return kept.lines_of_table(before, *kept.places(before, words)) if words[0] in kept.VERBS else None
+
+
+SAID = [texts_by_set, merge_by_spans, kept_by_set]
 
 
 def is_too_deep(before, words, run):

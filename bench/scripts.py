@@ -19,7 +19,8 @@ UNKNOWN_WORDS = [b"spin", b"", b"Row", b"row ", b" row", b"row\r", b"SET", b"set
                  "é".encode(), b"first", b"first-row-plus", b"last", b"segments", b"step-by", b"panel", b"zip "]
 KNOWN_WORDS = [b"row", b"set", b"cell", b"all", b"column", b"rows", b"columns", b"start", b"end", b"left", b"zip",
                b"concat", b"clean", b"retain", b"vertical", b"horizontal", b"named", b"name", b"frame", b"and", b"step",
-               b"tabs", b"shape", b"span", b"wrap", b"merge"]
+               b"tabs", b"shape", b"span", b"wrap", b"merge", b"truncate", b"replace", b"keep", b"sort", b"text", b"number",
+               b"down"]
 GOOD_NUMBERS = [b"00", b"01", b"0003", b"0000000000000000000000000000001", b"10000", b"9999", b"0000010000"]
 BAD_NUMBERS = [b"", b"+0", b"-0", b"+1", b"-1", b"+", b"-", b"--1", b"10001", b"010001", b"99999", b"4294967296",
                b"18446744073709551615", b"18446744073709551616", b"18446744073709551617", b"9" * 40, b"1x", b"x", b"1 ",
@@ -27,6 +28,8 @@ BAD_NUMBERS = [b"", b"+0", b"-0", b"+1", b"-1", b"+", b"-", b"--1", b"10001", b"
 GOOD_SIZES = [b"-0", b"00", b"-01", b"-10000", b"10000", b"-9999", b"0002", b"-0000000000000000000000000000000002"]
 SIZES = [-2, -1, 0, 1, 1, 2, 2, 2, 3, 3, 4]
 BAD_SIZES = [b"", b"-", b"--1", b"+1", b"-10001", b"10001", b"- 1", b"-x", b"1-", b"-1\r", b"-" + b"9" * 40]
+OPERATORS = [b"=", b"=", b"!=", b"<", b"<=", b">", b">="]  # of tests behind `keep rows`
+DECIMALS = [b"0", b"1", b"2", b"-1", b"1.0", b".5", b"+2", b"10"]
 FAR_NUMBERS = [10_000, 10_001, 2**64 - 2, 2**64 - 1]  # after `shape` and `span`
 # What mutations put in: bytes that mean something.
 BYTES = [b"\t", b"\n", b"\\", b"\r", b"\0", b" ", b"+", b"-", b"0", b"1", b"9", b"t", b"n", b"x", b"\xff", b"\xc3",
@@ -51,7 +54,7 @@ class Scripts:
         self.steps = [self.set, self.dup, self.clean, self.tabs, self.cspan, self.rspan, self.cspan, self.rspan,
                       self.hpanel, self.vpanel, self.vpanelw, self.header, self.footer, self.vmerge, self.hmerge,
                       self.rotate, self.reverse, self.split, self.split, self.extract, self.remove, self.concat,
-                      self.wrap, self.merge, self.merge]
+                      self.wrap, self.truncate, self.replace, self.merge, self.merge, self.keep, self.keep, self.sort]
 
     def one_of(self, things):
         return things[int(self.random.random() * len(things))]
@@ -66,7 +69,7 @@ class Scripts:
         if self.faulty("text"):
             return self.one_of(BAD_ESCAPES + BAD_TEXTS)
         if self.below(3) > 0:
-            return self.one_of(SHORT)
+            return self.one_of(SHORT if self.below(4) > 0 else DECIMALS)
         if self.below(2) == 0:
             return b" ".join(self.one_of(WRAPPED) for _ in range(1 + self.below(5)))
         return b"".join(self.one_of(self.one_of([PLAIN, PLAIN, ESCAPED])) for _ in range(self.one_of([1, 1, 1, 0, 3])))
@@ -166,8 +169,40 @@ class Scripts:
         width = self.number() if self.below(3) == 0 else b"%d" % self.below(4)
         return [b"wrap", width, *self.many_cells()]
 
+    def truncate(self):
+        return [b"truncate", *self.wrap()[1:]]
+
+    def replace(self):
+        return [b"replace", self.text(), self.text(), *self.many_cells()]
+
     def merge(self):
         return [b"merge", self.word(b"vertical", b"horizontal"), *self.many_cells()]
+
+    def end(self):
+        """An index from either end, which may be missing."""
+        if self.faulty("number"):
+            return self.one_of(BAD_NUMBERS)
+        return self.one_of([b"", b"%d" % self.below(6), b"-%d" % self.below(6), b"%d" % self.one_of(FAR_NUMBERS)])
+
+    def named_line(self, kind):
+        """What names lines behind `keep`."""
+        way = self.below(4)
+        if way == 0:
+            return self.one_of([b"", b"-"]) + b"%d" % self.below(6)
+        if way == 1:
+            return self.end() + b":" + self.end()
+        if kind == b"rows":
+            return self.text() + self.one_of(OPERATORS) + self.one_of([self.text(), self.one_of(DECIMALS)])
+        return self.one_of([b"", b"="]) + self.text()
+
+    def keep(self):
+        kind = self.word(b"rows", b"columns")
+        return [b"keep", kind, *(self.named_line(kind) for _ in range(1 + self.below(4)))]
+
+    def sort(self):
+        column = self.one_of([b"%d" % self.below(6), self.text(), b"=" + self.text()])
+        ways = [self.word(b"text", b"number"), *[self.word(b"down")] * self.below(2)]
+        return [b"sort", self.word(b"rows"), b"%d" % self.below(3), column, *ways]
 
     def cspan(self):
         return [b"cspan", self.size(), *self.selector()]

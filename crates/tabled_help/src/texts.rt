@@ -63,7 +63,7 @@ In each \\t is a tab, \\n a newline and \\\\ a backslash.
   T                             a text, maybe empty
   N, W, I, J, A, B, C, D        a number from 0 to 10000: digits, leading zeros too. Rows and columns are counted
                                 from 0
-  numbers of shape and span     the same, up to 18446744073709551615
+  numbers of shape, span, keep and sort the same, up to 18446744073709551615
   Z                             a size: such a number, maybe with one minus
   SEL                           a selector, with its words
   ..                            any number of what stands before
@@ -81,6 +81,9 @@ Records and texts
   tabs N SEL                    Writes N spaces for each tab
   wrap N SEL                    Cuts the lines of texts into lines of at most N columns, as a picture counts them,
                                 between words, which blanks part
+  truncate N SEL                Ends lines of more than N columns by …, so that they have N at most: what stays
+                                before it is the beginning, cut between pieces as by wrap
+  replace T T SEL               Replaces the first text, wherever it occurs in a text, by the second
 
 Merged cells: a merged cell is a rectangle of cells, shown with the text of its upper left one, the anchor.
   span I J H W                  A merged cell of H rows and W columns at row I, column J; H and W are at least 1,
@@ -108,6 +111,17 @@ rectangle again; else they come apart.
   extract A B C D               Keeps the rows A B and the columns C D
   remove lines                  Takes away rows A B, columns A B, or named T: the columns with that text in the
                                 first row
+  keep lines WHAT ..            Keeps the rows or the columns that are named, in the order in which they are named,
+                                each once
+                                2, -1: one by its index; -1 is the last
+                                A:B, A:, :B, :: those of a slice, as in Python
+                                T, =T: columns with this text in the first row
+                                T=TEXT, T!=TEXT, T<NUMBER, <=, >, >=: rows below the first that pass a test
+  sort rows N WHAT keys         Sorts the rows from row N on by a column: that of an index, or the first with this
+                                text in the first row
+                                text compares texts by their bytes
+                                number compares decimal numbers, exactly; what is none comes behind, in its order
+                                down behind either puts the largest first
   concat side T I J T ..        Puts a table of I rows and J columns, each at least 1, below (vertical) or to the
                                 right (horizontal); its texts follow, row by row
   split lines N order pieces    Cuts rows (column) or columns (row) into pieces of N cells, filled up with empty
@@ -171,22 +185,24 @@ WORDS OF OTHER TOOLS
   delete, drop                  remove
   insert, append                concat adds rows or columns, hpanel and vpanel one with a single text
   flip                          reverse
-  cut, select, head, tail       extract
+  cut, select, head, tail, filter keep
+  order                         sort
   replace, rename, fill         set
   title                         header
-  sort, filter, uniq, join      is not of this layer: it is done before, to the records
+  uniq, join                    is not of this layer: it is done before, to the records
   group, count, sum             the same
 
 ALL WORDS
 
-  all and bottom cell clean column columns concat content cspan dup end extract first-column first-row footer frame
-  header hmerge horizontal hpanel intersect inverse last-column last-column-minus last-column-plus last-row
-  last-row-minus last-row-plus left merge name named not remove retain reverse right rotate row rows rspan segment
-  set shape skip span split start step tabs top vertical vmerge vpanel vpanelw wrap zip
+  all and bottom cell clean column columns concat content cspan down dup end extract first-column first-row footer
+  frame header hmerge horizontal hpanel intersect inverse keep last-column last-column-minus last-column-plus
+  last-row last-row-minus last-row-plus left merge name named not number remove replace retain reverse right rotate
+  row rows rspan segment set shape skip sort span split start step tabs text top truncate vertical vmerge vpanel
+  vpanelw wrap zip
 ";
 
 /// The words of scripts.
-pub const WORDS: [&str; 58] = [
+pub const WORDS: [&str; 65] = [
     "all",
     "and",
     "bottom",
@@ -197,6 +213,7 @@ pub const WORDS: [&str; 58] = [
     "concat",
     "content",
     "cspan",
+    "down",
     "dup",
     "end",
     "extract",
@@ -210,6 +227,7 @@ pub const WORDS: [&str; 58] = [
     "hpanel",
     "intersect",
     "inverse",
+    "keep",
     "last-column",
     "last-column-minus",
     "last-column-plus",
@@ -221,7 +239,9 @@ pub const WORDS: [&str; 58] = [
     "name",
     "named",
     "not",
+    "number",
     "remove",
+    "replace",
     "retain",
     "reverse",
     "right",
@@ -233,12 +253,15 @@ pub const WORDS: [&str; 58] = [
     "set",
     "shape",
     "skip",
+    "sort",
     "span",
     "split",
     "start",
     "step",
     "tabs",
+    "text",
     "top",
+    "truncate",
     "vertical",
     "vmerge",
     "vpanel",
@@ -248,7 +271,7 @@ pub const WORDS: [&str; 58] = [
 ];
 
 /// What is said of each verb and each selector.
-pub const ENTRIES: [Entry; 48] = [
+pub const ENTRIES: [Entry; 52] = [
     Entry {
         word: "row",
         text: "  row T ..                      A record
@@ -283,6 +306,17 @@ pub const ENTRIES: [Entry; 48] = [
         word: "wrap",
         text: "  wrap N SEL                    Cuts the lines of texts into lines of at most N columns, as a picture counts them,
                                 between words, which blanks part
+",
+    },
+    Entry {
+        word: "truncate",
+        text: "  truncate N SEL                Ends lines of more than N columns by …, so that they have N at most: what stays
+                                before it is the beginning, cut between pieces as by wrap
+",
+    },
+    Entry {
+        word: "replace",
+        text: "  replace T T SEL               Replaces the first text, wherever it occurs in a text, by the second
 ",
     },
     Entry {
@@ -363,6 +397,25 @@ pub const ENTRIES: [Entry; 48] = [
         word: "remove",
         text: "  remove lines                  Takes away rows A B, columns A B, or named T: the columns with that text in the
                                 first row
+",
+    },
+    Entry {
+        word: "keep",
+        text: "  keep lines WHAT ..            Keeps the rows or the columns that are named, in the order in which they are named,
+                                each once
+                                2, -1: one by its index; -1 is the last
+                                A:B, A:, :B, :: those of a slice, as in Python
+                                T, =T: columns with this text in the first row
+                                T=TEXT, T!=TEXT, T<NUMBER, <=, >, >=: rows below the first that pass a test
+",
+    },
+    Entry {
+        word: "sort",
+        text: "  sort rows N WHAT keys         Sorts the rows from row N on by a column: that of an index, or the first with this
+                                text in the first row
+                                text compares texts by their bytes
+                                number compares decimal numbers, exactly; what is none comes behind, in its order
+                                down behind either puts the largest first
 ",
     },
     Entry {
@@ -529,19 +582,27 @@ pub const WAYS: [Way; 21] = [
     },
     Way {
         word: "cut",
-        way: "extract",
+        way: "keep",
     },
     Way {
         word: "select",
-        way: "extract",
+        way: "keep",
     },
     Way {
         word: "head",
-        way: "extract",
+        way: "keep",
     },
     Way {
         word: "tail",
-        way: "extract",
+        way: "keep",
+    },
+    Way {
+        word: "filter",
+        way: "keep",
+    },
+    Way {
+        word: "order",
+        way: "sort",
     },
     Way {
         word: "replace",
@@ -558,14 +619,6 @@ pub const WAYS: [Way; 21] = [
     Way {
         word: "title",
         way: "header",
-    },
-    Way {
-        word: "sort",
-        way: "is not of this layer: it is done before, to the records",
-    },
-    Way {
-        word: "filter",
-        way: "is not of this layer: it is done before, to the records",
     },
     Way {
         word: "uniq",
@@ -617,7 +670,7 @@ gives
     },
     FaultText {
         title: "not a number in range",
-        when: "A number too few, so that the text is read as one (set, cell, 1, x); a sign, comma or space; above 10000; a minus other than of a size; 0 rows or columns of concat or span, or a span of one cell.",
+        when: "A number too few, so that the text is read as one (set, cell, 1, x); a sign, comma or space; above 10000; a minus other than of a size or of keep; behind keep rows a word that is no index, slice or test, or a test by what is no number; 0 rows or columns of concat or span, or a span of one cell.",
         cure: "Write digits alone, as many numbers as ./tabled_script --help lists for the line.",
         example: "    row\tApple\t3
     set\trow\tfirst\tsold

@@ -1,3 +1,4 @@
+pub mod AllTold
 pub mod Asking
 pub mod BackToAnchors
 pub mod BackToLines
@@ -16,6 +17,7 @@ pub mod Escapes
 pub mod Examples
 pub mod GivenLines
 pub mod LastBefore
+pub mod LineWords
 pub mod LinesBetween
 pub mod LooseLines
 pub mod Misfits

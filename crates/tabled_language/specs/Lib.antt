@@ -3,6 +3,7 @@ pub mod Drafts
 pub mod Faults
 pub mod Lent
 pub mod Line
+pub mod LineNames
 pub mod Memory
 pub mod Origins
 pub mod Output

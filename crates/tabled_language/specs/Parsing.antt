@@ -1,10 +1,13 @@
 -- What the code's values say of a script (`script_in`), and how it goes through one, step by step. Nothing of it belongs to the language.
-use Rattle.std.specs.Prelude.{◌≡◌, ◌<◌, ◌≤◌, ◌⊎◌, ◌+◌, ◌^◌, ℕ, Bool, true, false, List, [], length, Option, None, Some, Result, Ok, Err, MatchResult, String, map}
+use Rattle.std.specs.Prelude.{◌≡◌, ◌<◌, ◌≤◌, ◌⊎◌, ◌+◌, ◌^◌, ℕ, Bool, true, false, List, [], length, Option, None, Some, Result, Ok, Err, MatchResult, String, map, not}
 use Rattle.std.specs.Global.{Global, Vec}
 use Rattle.std.specs.Slice.Iter.{iter_rest}
 use Rattle.std.specs.String.{string_bytes}
 use Rattle.tabled_grid.specs.Grid.{map_items}
 use Rattle.tabled_grid.specs.Spans.{SpanMap}
+use Rattle.tabled_settings.specs.Named.{columns_named, counted, rows_named, rows_where, sliced}
+use Rattle.tabled_settings.specs.declared.line_names.ColumnName.{ColumnName}
+use Rattle.tabled_settings.specs.declared.line_names.RowName.{RowName}
 use Rattle.tabled_steps.specs.States.{after}
 use Rattle.tabled_steps.specs.declared.step.Step.{Step}
 use Rattle.tabled_language.specs.declared.draft.Draft.{Draft as Drafted}
@@ -15,12 +18,20 @@ use Rattle.tabled_language.specs.declared.fault.ParseError.TheVariants as parse_
 use Rattle.tabled_language.specs.declared.fault.LineError.{LineError}
 use Rattle.tabled_language.specs.declared.fault.LineError.TheVariants.{Faulty, OutOfMemory}
 use Rattle.tabled_language.specs.declared.lent.LentText.{LentText}
+use Rattle.tabled_language.specs.declared.line_words.Lines.{Lines}
+use Rattle.tabled_language.specs.declared.line_words.Lines.TheVariants.{At, Between}
+use Rattle.tabled_language.specs.declared.line_words.Operator.{Operator}
+use Rattle.tabled_language.specs.declared.line_words.Operator.TheVariants as operator
+use Rattle.tabled_language.specs.declared.line_words.RowTest.{RowTest}
+use Rattle.tabled_language.specs.declared.line_words.RowWord.{RowWord}
+use Rattle.tabled_language.specs.declared.line_words.RowWord.TheVariants as row_word
 use Rattle.tabled_language.specs.declared.script.Script.{Script as Scripted}
 use Rattle.tabled_language.specs.declared.words.WordSource.{WordSource}
 use Rattle.tabled_language.specs.declared.words.WordSource.TheVariants.{Line as InLine, Texts}
 use Rattle.tabled_language.specs.Drafts.{Draft, asks_behind, draft_of, fault_behind, first_behind, takes, with_line, with_lines}
 use Rattle.tabled_language.specs.Lent.{bytes_of, texts_in_records}
 use Rattle.tabled_language.specs.Faults.{fault_of, first_fault}
+use Rattle.tabled_language.specs.LineNames.{NamedLines, is_number, is_text}
 use Rattle.tabled_language.specs.Line.{meaning_of, numbers_of, step_in}
 use Rattle.tabled_language.specs.Memory.{GivenLine, asks_between, asks_memory, says_given, verb_asks, words_ask}
 use Rattle.tabled_language.specs.Script.{Script, parse, parse_between, script_or_fault}
@@ -48,6 +59,38 @@ cell_texts rows = map (map string_bytes) (map_items rows)
 -- code takes what it is to take, seen through a view, and leaves the texts that it is to leave, or memory was refused
 abbrev pub TakesWords : {A X : Type 0} → (X → A) → A → List (List ℕ) → Result X LineError → List (List ℕ) → Type 0
 TakesWords view taken left result new = MatchResult result (λ x. (view x ≡ taken) × (new ≡ left)) (λ error. error ≡ OutOfMemory)
+
+-- the lines, of n, that an index or a slice in memory tells
+abbrev pub lines_in : Lines → ℕ → List ℕ
+lines_in (At index) = counted index
+lines_in (Between from to) = sliced from to
+
+-- what a name of rows names
+abbrev pub row_lines : RowName → NamedLines
+row_lines name g = rows_named g name
+
+-- what a name of columns names
+abbrev pub column_lines : ColumnName → NamedLines
+column_lines name g = columns_named g name
+
+-- a text passes the test of an operator and a value
+abbrev pub is_tested : Operator → List ℕ → List ℕ → Bool
+is_tested operator.Is wanted = is_text wanted
+is_tested operator.IsNot other = λ text. not (is_text other text)
+is_tested (operator.Compares how) number = is_number how number
+
+-- the columns that these are
+abbrev pub columns_in : Lines → NamedLines
+columns_in lines g = lines_in lines g.columns
+
+-- the rows that pass a test in memory
+abbrev pub rows_tested_in : RowTest → NamedLines
+rows_tested_in test = rows_where test.title.now (is_tested test.operator test.value.now)
+
+-- the rows that a word in memory names
+abbrev pub rows_in : RowWord → NamedLines
+rows_in (row_word.Lines lines) = λ g. lines_in lines g.rows
+rows_in (row_word.Where test) = rows_tested_in test
 
 -- the draft of what is in memory
 abbrev pub draft_in : Drafted → Draft

@@ -1,5 +1,5 @@
 -- The verbs of the language: the words that a line may begin with, and what each says.
-use Rattle.std.specs.Prelude.{ℕ, ◌*◌, true, false, List, [], ◌∷◌, codes, if◌then◌else◌, None, Some, Result, Ok, Err, take, drop, map, length, nat_le}
+use Rattle.std.specs.Prelude.{ℕ, ◌*◌, Bool, true, false, List, [], ◌∷◌, codes, if◌then◌else◌, None, Some, Result, Ok, Err, take, drop, map, length, nat_le}
 use Rattle.std.specs.List.{range_with_len}
 use Rattle.std.specs.Str.{bytes_eq}
 use Rattle.tabled_grid.specs.Grid.{Grid}
@@ -15,13 +15,17 @@ use Rattle.tabled_grid.specs.declared.records.piece_order.PieceOrder.TheVariants
 use Rattle.tabled_settings.specs.declared.split.Display.{Display}
 use Rattle.tabled_settings.specs.declared.split.Display.TheVariants as display
 use Rattle.tabled_spans.specs.Widths as widths
-use Rattle.tabled_steps.specs.Rearrangements.{extract, remove_named, remove_range, turn}
-use Rattle.tabled_steps.specs.States.{State, cut_lines, duplicate, join, merge, merge_all, on_each, put_panel, rearrange, recode, reverse, set, span, wrap}
+use Rattle.tabled_settings.specs.Sorted.{text_order}
+use Rattle.tabled_settings.specs.declared.sort.SortKeys.{SortKeys}
+use Rattle.tabled_settings.specs.declared.sort.SortKeys.TheVariants.{Numbers, Texts}
+use Rattle.tabled_steps.specs.Rearrangements.{extract, keep, remove_named, remove_range, sort_rows, turn}
+use Rattle.tabled_steps.specs.States.{State, cut_lines, duplicate, join, merge, merge_all, on_each, put_panel, rearrange, recode, replace, reverse, set, span, truncate, wrap}
 use Rattle.tabled_language.specs.declared.fault.Fault.{Fault}
 use Rattle.tabled_language.specs.declared.fault.Fault.TheVariants.{WordCount}
+use Rattle.tabled_language.specs.LineNames.{columns_told, reads_column, reads_named_lines, rows_told}
 use Rattle.tabled_language.specs.Selectors.{reads_cells}
 use Rattle.tabled_language.specs.Sizes.{reads_anchor, reads_shape}
-use Rattle.tabled_language.specs.Words.{Choices, Reading, behind, gives, kept, then_reads, reads_positive_number, reads_integer, reads_number, reads_one_of, reads_text, reads_two, whole}
+use Rattle.tabled_language.specs.Words.{Choices, Reading, behind, gives, kept, then_reads, reads_or, reads_positive_number, reads_integer, reads_length, reads_number, reads_one_of, reads_text, reads_two, whole}
 
 -- what a line says: nothing, a table's shape, a record, an anchor, what it makes of a table's state, or a fault.
 -- A shape and an anchor stand with the fault of their words: the line may be out of place before these are read
@@ -105,6 +109,14 @@ reads_tabs = then_reads reads_number (λ n. then_reads reads_cells (λ named. gi
 abbrev pub reads_wrap : Reading (State → State)
 reads_wrap = then_reads reads_number (λ n. then_reads reads_cells (λ named. gives (on_each (wrap (n, true)) named)))
 
+-- how many columns a line has at most, and a selector of texts, cut there, with an ellipsis
+abbrev pub reads_truncate : Reading (State → State)
+reads_truncate = then_reads reads_number (λ n. then_reads reads_cells (λ named. gives (on_each (truncate n (0xE2 ∷ 0x80 ∷ 0xA6 ∷ [])) named)))
+
+-- a part of texts, what is in its place then, and a selector
+abbrev pub reads_replace : Reading (State → State)
+reads_replace = then_reads reads_text (λ from. then_reads reads_text (λ to. then_reads reads_cells (λ named. gives (on_each (replace from to) named))))
+
 -- a size and a selector
 abbrev pub reads_span : Axis → Reading (State → State)
 reads_span axis = then_reads reads_integer (λ size. then_reads reads_cells (λ named. gives (on_each (span axis size) named)))
@@ -149,6 +161,29 @@ removals =
     ∷ (codes "named", then_reads reads_text (λ name. gives (rearrange (remove_named name))))
     ∷ []
 
+-- what `keep` keeps: rows or columns, each once, in the order in which they are named
+abbrev pub keeps : Choices (State → State)
+keeps =
+    (codes "rows", then_reads (reads_named_lines rows_told) (λ lines. gives (rearrange (keep Rows lines))))
+    ∷ (codes "columns", then_reads (reads_named_lines columns_told) (λ lines. gives (rearrange (keep Columns lines))))
+    ∷ []
+
+-- `text` or `number`
+abbrev pub reads_keys : Reading SortKeys
+reads_keys = reads_one_of ((codes "text", gives Texts) ∷ (codes "number", gives Numbers) ∷ [])
+
+-- `down`, or nothing
+abbrev pub reads_descending : Reading Bool
+reads_descending = reads_or false (reads_one_of ((codes "down", gives true) ∷ []))
+
+-- the row from which on rows are sorted, the column that they are sorted by, as what, and whether the largest comes first
+abbrev pub reads_row_sort : Reading (State → State)
+reads_row_sort = then_reads reads_length (λ from. then_reads reads_column (λ column. then_reads reads_keys (λ keys. then_reads reads_descending (λ descending. gives (rearrange (sort_rows from (text_order keys descending) column))))))
+
+-- what `sort` sorts: rows
+abbrev pub sorts : Choices (State → State)
+sorts = (codes "rows", reads_row_sort) ∷ []
+
 -- a side, a default text and a table
 abbrev pub reads_concat : Reading (State → State)
 reads_concat = then_reads reads_side (λ axis. then_reads reads_text (λ default. then_reads reads_table (λ second. gives (join axis second default))))
@@ -165,6 +200,8 @@ steps =
     ∷ (codes "clean", reads_clean)
     ∷ (codes "tabs", reads_tabs)
     ∷ (codes "wrap", reads_wrap)
+    ∷ (codes "truncate", reads_truncate)
+    ∷ (codes "replace", reads_replace)
     ∷ (codes "cspan", reads_span Columns)
     ∷ (codes "rspan", reads_span Rows)
     ∷ (codes "vmerge", gives (merge_all Rows))
@@ -179,6 +216,8 @@ steps =
     ∷ (codes "reverse", reads_reverse)
     ∷ (codes "extract", reads_extract)
     ∷ (codes "remove", reads_one_of removals)
+    ∷ (codes "keep", reads_one_of keeps)
+    ∷ (codes "sort", reads_one_of sorts)
     ∷ (codes "concat", reads_concat)
     ∷ (codes "split", reads_split)
     ∷ []

@@ -1,5 +1,6 @@
 -- How the words of a line are read, from the front, and where that asks for memory.
 use Rattle.std.specs.Prelude.{ℕ, ℤ, Bool, false, ◌||◌, List, [], ◌∷◌, ◌==◌, if◌then◌else◌, Option, None, Some, Result, Ok, Err, is_ok}
+use Rattle.std.specs.Option.{is_some}
 use Rattle.std.specs.Str.{bytes_eq}
 use Rattle.tabled_language.specs.declared.fault.Fault.{Fault}
 use Rattle.tabled_language.specs.declared.fault.Fault.TheVariants.{UnknownWord, WordCount, NumberRange}
@@ -43,6 +44,50 @@ reads_two reading = then_reads reading (λ first. then_reads reading (λ second.
 -- a reading whose value is put in memory: this is asked for once it is read
 abbrev pub kept : {A : Type 0} → Reading A → Reading A
 kept reading = record { reads = reading.reads; asks = λ texts. reading.asks texts || is_ok (reading.reads texts) }
+
+-- a value before others, or a fault where there is none or these are one
+abbrev pub in_front : {A : Type 0} → Option A → Result (List A) Fault → Result (List A) Fault
+in_front None told = Err NumberRange
+in_front (Some x) (Ok xs) = Ok (x ∷ xs)
+in_front (Some x) (Err fault) = Err fault
+
+-- what words tell, each by itself, or a fault at the first that tells nothing
+abbrev pub all_told : {A : Type 0} → (List ℕ → Option A) → List (List ℕ) → Result (List A) Fault
+all_told tells [] = Ok []
+all_told tells (word ∷ words) = in_front (tells word) (all_told tells words)
+
+-- what was told, and no word left
+abbrev pub with_none_left : {A : Type 0} → Result A Fault → Read A
+with_none_left (Ok x) = Ok (x, [])
+with_none_left (Err fault) = Err fault
+
+-- what all words tell, of which there is at least one
+abbrev pub read_all : {A : Type 0} → (List ℕ → Option A) → List (List ℕ) → Read (List A)
+read_all tells [] = Err WordCount
+read_all tells (word ∷ words) = with_none_left (all_told tells (word ∷ words))
+
+-- this asks for memory where the first tells something
+abbrev pub asks_all : {A : Type 0} → (List ℕ → Option A) → List (List ℕ) → Bool
+asks_all tells [] = false
+asks_all tells (word ∷ words) = is_some (tells word)
+
+-- all words left, each of which tells something by itself
+abbrev pub reads_all : {A : Type 0} → (List ℕ → Option A) → Reading (List A)
+reads_all tells = record { reads = read_all tells; asks = asks_all tells }
+
+-- what is read where no word is left is a value
+abbrev pub read_or : {A : Type 0} → A → Reading A → List (List ℕ) → Read A
+read_or x reading [] = Ok (x, [])
+read_or x reading (text ∷ texts) = reading.reads (text ∷ texts)
+
+-- this asks for no memory
+abbrev pub asks_or : {A : Type 0} → Reading A → List (List ℕ) → Bool
+asks_or reading [] = false
+asks_or reading (text ∷ texts) = reading.asks (text ∷ texts)
+
+-- a value where no word is left, and else what is read
+abbrev pub reads_or : {A : Type 0} → A → Reading A → Reading A
+reads_or x reading = record { reads = read_or x reading; asks = asks_or reading }
 
 -- a word
 abbrev pub first_word : List (List ℕ) → Read (List ℕ)

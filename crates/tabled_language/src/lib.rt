@@ -7,6 +7,8 @@ mod faulty;
 mod keywords;
 pub mod laws;
 mod lent;
+mod line_names;
+mod line_words;
 mod origin;
 mod padding;
 mod parts;

@@ -20,7 +20,7 @@ impl<'a> Words<'a> {
     ghost use Rattle.tabled_grid.specs.Grid.{map_grid};
     ghost use Rattle.tabled_grid.specs.declared.records.axis.Axis.TheVariants.{Columns, Rows};
     ghost use Rattle.tabled_language.specs.Parsing.{Reads, TakesWords, cell_texts};
-    ghost use Rattle.tabled_language.specs.Verb.{reads_clean, reads_concat, reads_cut_panel, reads_dup, reads_extract, reads_footer, reads_header, reads_merge, reads_panel, reads_reverse, reads_set, reads_span, reads_split, reads_table, reads_tabs, reads_turn, reads_wrap, removals, rows_of_texts, steps};
+    ghost use Rattle.tabled_language.specs.Verb.{reads_clean, reads_concat, reads_cut_panel, reads_dup, reads_extract, reads_footer, reads_header, reads_merge, reads_panel, reads_replace, reads_reverse, reads_set, reads_span, reads_split, reads_table, reads_tabs, reads_truncate, reads_turn, reads_wrap, removals, rows_of_texts, steps};
     ghost use Rattle.tabled_language.specs.Words.{behind, reads_one_of};
     ghost use Rattle.tabled_steps.specs.States.{after};
 
@@ -35,11 +35,15 @@ impl<'a> Words<'a> {
             (5, "clean") => self.clean(alloc),
             (4, "tabs") => self.tabs(alloc),
             (4, "wrap") => self.wrap(alloc),
+            (8, "truncate") => self.truncate(alloc),
+            (7, "replace") => self.replace(alloc),
             (5, "cspan") => self.span(alloc, Axis::Columns),
             (5, "rspan") => self.span(alloc, Axis::Rows),
             (6, "rotate") => self.turn(),
             (7, "reverse") => self.reverse(),
             (6, "remove") => self.removal(alloc),
+            (4, "keep") => self.keep(alloc),
+            (4, "sort") => self.sort(alloc),
             (6, "concat") => self.concat(alloc),
             (7, "extract") => self.extract(),
             (5, "split") => self.split(),
@@ -92,6 +96,23 @@ impl<'a> Words<'a> {
         let width = self.number()?;
         let select = self.cells(alloc)?;
         Ok(Step::Wrap(Width::wrap(width).keep_words(true), select))
+    }
+
+    fn truncate(&mut self, alloc: Global) -> Read<Step>
+        ensures { Reads after reads_truncate self.old result self.new }
+    {
+        let width = self.number()?;
+        let select = self.cells(alloc)?;
+        Ok(Step::Truncate(Width::truncate(width).suffix("\u{2026}"), select))
+    }
+
+    fn replace(&mut self, alloc: Global) -> Read<Step>
+        ensures { Reads after reads_replace self.old result self.new }
+    {
+        let from = self.text(alloc)?;
+        let to = self.text(alloc)?;
+        let select = self.cells(alloc)?;
+        Ok(Step::Replace(from, to, select))
     }
 
     fn span(&mut self, alloc: Global, axis: Axis) -> Read<Step>

@@ -12,7 +12,9 @@ use Rattle.tabled_options.specs.Writes.{Write}
 use Rattle.tabled_select.specs.Selectors.{columns_of, rows_of}
 use Rattle.tabled_settings.specs.Charsets.{is_set, mapped_writes, recoded}
 use Rattle.tabled_settings.specs.Named.{all_columns_named, all_rows_named}
+use Rattle.tabled_settings.specs.Replaced.{replaced_text}
 use Rattle.tabled_settings.specs.Sorted.{sort_column, text_order}
+use Rattle.tabled_settings.specs.Truncates.{truncated}
 use Rattle.tabled_settings.specs.declared.reverse.Reverse.{Reverse}
 use Rattle.tabled_settings.specs.declared.rotate.Rotate.{Rotate}
 use Rattle.tabled_settings.specs.declared.rotate.Rotate.TheVariants.{Bottom, Top}
@@ -86,6 +88,8 @@ act_of (step.Set select text) = ChangeEach (Rewrite (λ _. string_bytes text)) s
 act_of (step.Dup destination source) = Duplicate destination source
 act_of (step.Charset charset select) = ChangeEach (RewriteIf (is_set charset) (recoded charset)) select
 act_of (step.Wrap how select) = ChangeEach (Rewrite (wrapped how)) select
+act_of (step.Truncate how select) = ChangeEach (Rewrite (truncated how.width how.suffix.now)) select
+act_of (step.Replace from to select) = ChangeEach (Rewrite (replaced_text (string_bytes from) (string_bytes to))) select
 act_of (step.ColumnSpan size select) = ChangeEach (Span Columns size) select
 act_of (step.RowSpan size select) = ChangeEach (Span Rows size) select
 act_of (step.Merge axis select) = ChangeEach (Merge axis) select

@@ -10,6 +10,8 @@ use Rattle.tabled_grid.specs.declared.records.axis.Axis.{Axis}
 use Rattle.tabled_options.specs.Does.{Change, Each, EachUntilAt}
 use Rattle.tabled_options.specs.Writes.{with_writes}
 use Rattle.tabled_settings.specs.Charsets.{is_set, recoded}
+use Rattle.tabled_settings.specs.Replaced.{replaced_text}
+use Rattle.tabled_settings.specs.Truncates.{truncated}
 use Rattle.tabled_settings.specs.Dups.{dup_writes}
 use Rattle.tabled_settings.specs.Joined.{spans_of_join}
 use Rattle.tabled_settings.specs.PiecePlaces.{glued, spans_of_split}
@@ -58,6 +60,14 @@ recode charset = rewrite_if (is_set charset) (recoded charset)
 -- the texts that an entity names, wrapped
 abbrev pub wrap : ℕ × Bool → State → Entity → State
 wrap how = rewrite (wrapped how)
+
+-- the texts that an entity names, cut at a width, with a suffix
+abbrev pub truncate : ℕ → List ℕ → State → Entity → State
+truncate n suffix = rewrite (truncated n suffix)
+
+-- the texts that an entity names, with a part replaced
+abbrev pub replace : List ℕ → List ℕ → State → Entity → State
+replace from to = rewrite (replaced_text from to)
 
 -- a span of a size on an entity
 abbrev pub span : Axis → ℤ → State → Entity → State

@@ -39,7 +39,7 @@ use tabled_settings::reverse::Reverse;
 use tabled_settings::rotate::Rotate;
 use tabled_settings::sort::Sort;
 use tabled_settings::split::Split;
-use tabled_settings::width::Wrap;
+use tabled_settings::width::{Truncate, Wrap};
 use tabled_spans::merge::{MergeDuplicatesHorizontal, MergeDuplicatesVertical};
 use tabled_spans::panel::{Footer, Header, HorizontalPanel, VerticalPanel};
 use tabled_spans::span::{ColumnSpan, RowSpan};
@@ -93,6 +93,7 @@ where
     ensures set { OnEach R.Cell.is_blank R.Cell.text_of (λ text to. step.Set to text) ⟦<String as CellOption<R, SpannedConfig>>⟧ }
     ensures charset { OnEach R.Cell.is_blank R.Cell.text_of step.Charset ⟦<Charset as CellOption<R, SpannedConfig>>⟧ }
     ensures wrap { OnEach R.Cell.is_blank R.Cell.text_of step.Wrap ⟦<Wrap as CellOption<R, SpannedConfig>>⟧ }
+    ensures truncate { OnEach R.Cell.is_blank R.Cell.text_of step.Truncate ⟦<Truncate<'static> as CellOption<R, SpannedConfig>>⟧ }
     ensures column_span { OnEach R.Cell.is_blank R.Cell.text_of step.ColumnSpan ⟦<ColumnSpan as CellOption<R, SpannedConfig>>⟧ }
     ensures row_span { OnEach R.Cell.is_blank R.Cell.text_of step.RowSpan ⟦<RowSpan as CellOption<R, SpannedConfig>>⟧ }
     ensures vertical { OnEach R.Cell.is_blank R.Cell.text_of (λ _. step.Merge Rows) ⟦<MergeDuplicatesVertical as CellOption<R, SpannedConfig>>⟧ }

@@ -56,6 +56,8 @@ impl Step {
             Step::Set(select, _)
             | Step::Charset(_, select)
             | Step::Wrap(_, select)
+            | Step::Truncate(_, select)
+            | Step::Replace(_, _, select)
             | Step::ColumnSpan(_, select)
             | Step::RowSpan(_, select)
             | Step::Merge(_, select) => select.names_none(alloc, records),

@@ -21,11 +21,12 @@ use tabled_settings::extract::Extract;
 use tabled_settings::formatting::Charset;
 use tabled_settings::keep::Keep;
 use tabled_settings::line_names::{ColumnNames, RowNames};
+use tabled_settings::replace::Replace;
 use tabled_settings::reverse::Reverse;
 use tabled_settings::rotate::Rotate;
 use tabled_settings::sort::Sort;
 use tabled_settings::split::Split;
-use tabled_settings::width::Wrap;
+use tabled_settings::width::{Truncate, Wrap};
 use tabled_spans::merge::{Merge, MergeDuplicatesHorizontal, MergeDuplicatesVertical};
 use tabled_spans::panel::{Footer, Header, HorizontalPanel, VerticalPanel};
 use tabled_spans::span::Span;
@@ -46,6 +47,10 @@ pub enum Step {
     Charset(Charset, Select),
     /// Cuts the lines of texts to a width, as the wrap says.
     Wrap(Wrap, Select),
+    /// Cuts the lines of texts at a width, as the truncation says.
+    Truncate(Truncate<'static>, Select),
+    /// Replaces the first text by the second, wherever it occurs in texts.
+    Replace(String, String, Select),
     /// Merges cells along rows, by a span's size.
     ColumnSpan(isize, Select),
     /// Merges cells along columns, by a span's size.
@@ -107,6 +112,11 @@ impl Step {
             }
             Step::Charset(charset, select) => change_each(alloc, records, cfg, select, charset),
             Step::Wrap(wrap, select) => change_each(alloc, records, cfg, select, wrap),
+            Step::Truncate(truncate, select) => change_each(alloc, records, cfg, select, truncate),
+            Step::Replace(from, to, select) => {
+                let replace = Replace::new(from.as_str(), to.as_str());
+                change_each(alloc, records, cfg, select, replace)
+            }
             Step::ColumnSpan(size, select) => {
                 change_each(alloc, records, cfg, select, Span::column(size))
             }

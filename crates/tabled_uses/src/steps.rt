@@ -1,14 +1,17 @@
 //! Calls of steps: options that are data, run on any store.
 
 use std::alloc::{AllocError, Global};
-use tabled_grid::config::SpannedConfig;
+use tabled_grid::config::{Offset, SpannedConfig};
 use tabled_grid::records::{
     CellText, ExactRecords, PeekableRecords, Records, RecordsMut, Resizable,
 };
+use tabled_settings::line_names::{ColumnName, ColumnNames, RowName, RowNames};
 use tabled_settings::merge::Merge;
 use tabled_settings::rotate::Rotate;
+use tabled_settings::sort::Sort;
 use tabled_settings::span::Span;
 use tabled_settings::split::Split;
+use tabled_settings::text_test::TextTest;
 use tabled_steps::{Select, Step, run};
 use tabled_table::{Table, TextRef};
 
@@ -79,6 +82,52 @@ where
         Ok(()) => Ok(many),
         Err((done, _)) => Ok(done),
     }
+}
+
+/// The first row, and those of a region.
+fn rows_of_region(alloc: Global, region: &str) -> Result<RowNames, AllocError> {
+    let title = String::from_str(alloc, "Region")?;
+    let test = TextTest::Is(String::from_str(alloc, region)?);
+    let names = [RowName::At(Offset::Start(0)), RowName::Where(title, test)];
+    Ok(RowNames::new(Vec::from_array(alloc, names)?))
+}
+
+/// The column `Price`, and before it all others but the last.
+fn priced_columns(alloc: Global) -> Result<ColumnNames, AllocError> {
+    let price = String::from_str(alloc, "Price")?;
+    let names = [
+        ColumnName::Between(Offset::Start(0), Offset::End(1)),
+        ColumnName::Text(price),
+    ];
+    Ok(ColumnNames::new(Vec::from_array(alloc, names)?))
+}
+
+/// Steps that keep the rows of a region and some columns, and sort the rows by the first of these.
+pub fn keeping(alloc: Global, region: &str) -> Result<Vec<Step>, AllocError> {
+    let rows = rows_of_region(alloc, region)?;
+    let columns = priced_columns(alloc)?;
+    Ok(vec![in alloc;
+        Step::KeepRows(rows),
+        Step::KeepColumns(columns),
+        Step::Sort(Sort::rows(1).numbers()),
+    ]?)
+}
+
+/// How many rows and columns of a store are named.
+pub fn count_named<R>(
+    alloc: Global,
+    records: &R,
+    rows: &RowNames,
+    columns: &ColumnNames,
+) -> Result<(usize, usize), AllocError>
+where
+    R: Records + ExactRecords + PeekableRecords,
+    R::Cell: CellText,
+    requires { R.is_well_formed records.now }
+{
+    let rows = rows.find(alloc, records)?;
+    let columns = columns.find(alloc, records)?;
+    Ok((rows.len(), columns.len()))
 }
 
 /// Says whether a step names nothing in a store, so that to do it is of no use.

@@ -12,7 +12,7 @@ use tabled_testing::flat;
 use tabled_uses::geometry::{
     frames, runs_fitting_steps, spans_back, widens_and_merges, writes_and_spans,
 };
-use tabled_uses::writers::{wraps_all, writes_all};
+use tabled_uses::writers::{shortens_all, wraps_all, writes_all};
 
 #[derive(Clone, Copy)]
 enum Call {
@@ -22,6 +22,7 @@ enum Call {
     Lines,
     Writers,
     Wraps,
+    Shortens,
 }
 
 fn make<R>(
@@ -47,6 +48,7 @@ where
         Call::Lines => widens_and_merges(alloc, records, cfg, "x"),
         Call::Writers => writes_all(alloc, records, cfg),
         Call::Wraps => wraps_all(alloc, records, cfg, 1),
+        Call::Shortens => shortens_all(alloc, records, cfg, "a", 1),
     }
 }
 
@@ -101,6 +103,7 @@ fn merged_cells_fit_after_each_call(rt: HostRuntime) -> Result<(), Fail> {
         (Call::Lines, (3, 4, 2, 1)),
         (Call::Writers, (2, 3, 1, 1)),
         (Call::Wraps, (2, 3, 1, 1)),
+        (Call::Shortens, (2, 3, 1, 1)),
     ] {
         let made = made(rt.alloc(), flat(rt.alloc(), BLANKS)?, call)?;
         assert!(rt; made == Some(wanted), "{wanted:?}");

@@ -11,3 +11,4 @@ mod sorts;
 mod spans;
 mod tables;
 mod widths;
+mod writers;

@@ -13,6 +13,7 @@ use tabled_testing::flat;
 ///
 /// What spans and merges merge is taken apart again, so that the steps after them carry little.
 const STEPS: &str = "set all x; dup last-column first-column; clean all; tabs 2 all; wrap 9 all; \
+    truncate 9 all; replace x y all; replace y x all; \
     hpanel 1 P; vpanel 0 P; vpanelw 3 1 xy; header N; footer N; \
     cspan -1 row 7; rspan -1 row 8; cspan 2 all; cspan 1 all; rspan 2 all; rspan 1 all; \
     hmerge; cspan 1 all; vmerge; rspan 1 all; merge vertical column 0; rspan 1 column 0; \
@@ -20,6 +21,7 @@ const STEPS: &str = "set all x; dup last-column first-column; clean all; tabs 2 
     rotate top; rotate bottom; rotate left; rotate right; \
     split column 2 zip clean; split row 2 concat retain; \
     concat vertical - 1 2 x y; concat horizontal - 1 1 z; remove named z; \
+    sort rows 1 0 text down; sort rows 0 1 number; keep rows 0 -1 2: 1; keep columns -1 x :; \
     remove rows 0 1; remove columns 1 9; set row 3 y + clean row 3; extract 0 10000 0 9";
 
 /// The number of the step that is refused on a table of n rows, or the shape that all steps make.

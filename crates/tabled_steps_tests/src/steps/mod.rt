@@ -5,6 +5,7 @@ mod cuts;
 mod joins;
 mod large;
 mod lines;
+mod named;
 mod panels;
 mod selectors;
 mod spans;

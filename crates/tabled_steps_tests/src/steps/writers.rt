@@ -21,6 +21,10 @@ const CASES: &[&str] = &[
     "a b / | set all p\\tq; tabs 0 all | set !0 | set p\tq b / !0 | set p\tq p\tq / !1 | set pq p\tq / !1 | pq pq /",
     "abcde b / | wrap 3 all | set !0 | abc\nde b /",
     "abcde b / | wrap 5 all; wrap 0 column 1 | abcde _ /",
+    "abcde b abc / | truncate 2 all | set !0 | set a\u{2026} b abc / !0 | a\u{2026} b a\u{2026} /",
+    "abcde b / | truncate 5 all; truncate 0 column 1 | abcde _ /",
+    "aba c ab / | replace a xy all | set !0 | set xybxy c ab / !0 | xybxy c xyb /",
+    "aaa b / | replace aa b columns 0 2; replace c d all | ba b /",
     // Steps after one another, of which some are one.
     "a b / c d / |  | in place | a b / c d /",
     "a b / c d / | rotate top; split column 9 zip clean | in place | c d / a b /",

@@ -11,6 +11,7 @@ returns g c =
       set = λ text select. acts g.R.Cell.Blank.is_blank text_of (step.Set select text);
       charset = λ charset select. acts g.R.Cell.Blank.is_blank text_of (step.Charset charset select);
       wrap = λ how select. acts g.R.Cell.Blank.is_blank text_of (step.Wrap how select);
+      truncate = λ how select. acts g.R.Cell.Blank.is_blank text_of (step.Truncate how select);
       column_span = λ size select. acts g.R.Cell.Blank.is_blank text_of (step.ColumnSpan size select);
       row_span = λ size select. acts g.R.Cell.Blank.is_blank text_of (step.RowSpan size select);
       vertical = λ _ select. acts g.R.Cell.Blank.is_blank text_of (step.Merge Rows select);

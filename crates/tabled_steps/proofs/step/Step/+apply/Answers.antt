@@ -4,6 +4,8 @@ use mir.Val.{SFits}
 use Rattle.tabled_steps.proofs.LocalChanges.{local_change}
 use Rattle.tabled_steps.proofs.RepresentedPlaces.{duplicated_represented, duplicated_represented_refused}
 use Rattle.tabled_steps.specs.Kinds.{Merge, Rewrite, RewriteIf, Span}
+use Rattle.tabled_settings.specs.Replaced.{replaced_text}
+use Rattle.tabled_settings.specs.Truncates.{truncated}
 use Rattle.tabled_steps.proofs.step.Step.+apply.Goals as goal
 
 pub change_each-requires-clause-local : goal.change_each-requires-clause-local
@@ -20,6 +22,12 @@ change_each-requires-in-Charset-clause-local g n c = local_change g.R.Cell.CellT
 
 pub change_each-requires-in-Wrap-clause-local : goal.change_each-requires-in-Wrap-clause-local
 change_each-requires-in-Wrap-clause-local g n c = local_change g.R.Cell.CellText.text_of (Rewrite (wrapped c.in-Wrap.wrap))
+
+pub change_each-requires-in-Truncate-clause-local : goal.change_each-requires-in-Truncate-clause-local
+change_each-requires-in-Truncate-clause-local g n c = local_change g.R.Cell.CellText.text_of (Rewrite (truncated c.in-Truncate.truncate.width c.in-Truncate.truncate.suffix.now))
+
+pub change_each-requires-in-Replace-clause-local : goal.change_each-requires-in-Replace-clause-local
+change_each-requires-in-Replace-clause-local g n c = local_change g.R.Cell.CellText.text_of (Rewrite (replaced_text c.new-replace.result.from.now c.new-replace.result.to.now))
 
 pub change_each-requires-in-ColumnSpan-clause-local : goal.change_each-requires-in-ColumnSpan-clause-local
 change_each-requires-in-ColumnSpan-clause-local g n c = local_change g.R.Cell.CellText.text_of (Span Columns c.column.result)
@@ -112,3 +120,9 @@ pub returns-in_ok-apply-in-Both-clause-err : goal.returns-in_ok-apply-in-Both-cl
 returns-in_ok-apply-in-Both-clause-err g n c =
     let first = rw c.into_inner.ensures at c.in_ok-apply-in-Both.ensures.ok in
     rw c.in-Both.is (IfErr-weaker c.apply-in-Both.result _ _ (λ _ second. inr (_, _, first, second)) (rw c.into_inner-in-Both.ensures at c.apply-in-Both.ensures.err))
+
+pub returns-in-Replace-clause-ok : goal.returns-in-Replace-clause-ok
+returns-in-Replace-clause-ok g n c = rw c.in-Replace.is (rw (c.new-replace.ensures.from, c.new-replace.ensures.to, c.as_str.ensures.value, c.as_str-in-Replace.ensures.value) at c.change_each-in-Replace.ensures.ok)
+
+pub returns-in-Replace-clause-err : goal.returns-in-Replace-clause-err
+returns-in-Replace-clause-err g n c = rw c.in-Replace.is (rw (c.new-replace.ensures.from, c.new-replace.ensures.to, c.as_str.ensures.value, c.as_str-in-Replace.ensures.value) at c.change_each-in-Replace.ensures.err)
