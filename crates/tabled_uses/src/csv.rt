@@ -1,7 +1,7 @@
 //! Tables read from CSV.
 
 use std::alloc::{AllocError, Global};
-use tabled_csv::{ReadError, Room, Separator, read};
+use tabled_csv::{ReadError, Room, Separator, Spare, read, read_with};
 use tabled_draw::picture;
 use tabled_table::builder::Builder;
 
@@ -14,6 +14,22 @@ pub fn drawn(alloc: Global, csv: &[u8]) -> Result<String, ReadError> {
     }
     let table = rows.build(alloc)?;
     Ok(picture(alloc, table.get_records(), table.get_config())?)
+}
+
+/// Rows of texts that are lent.
+pub type LentRows<'a> = Vec<Vec<&'a str>>;
+
+/// The rows of two files of CSV, which share a room.
+pub fn rows_of_both<'a>(
+    alloc: Global,
+    first: &'a [u8],
+    other: &'a [u8],
+    room: &'a mut Room,
+) -> Result<(LentRows<'a>, LentRows<'a>), ReadError> {
+    let mut spare = Spare::new(room);
+    let rows = read_with(alloc, Separator::comma(), first, &mut spare)?;
+    let others = read_with(alloc, Separator::comma(), other, &mut spare)?;
+    Ok((rows, others))
 }
 
 /// The texts of a row.

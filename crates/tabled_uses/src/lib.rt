@@ -1,6 +1,7 @@
 //! What an outsider writes over the libraries.
 #![tactic(auto)]
 
+pub mod answering;
 pub mod carried;
 pub mod csv;
 pub mod decimals;

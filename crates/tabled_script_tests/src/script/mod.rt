@@ -5,5 +5,6 @@ mod arguments;
 mod faults;
 mod gallery;
 mod help;
+mod refusals;
 mod sources;
 mod widths;
