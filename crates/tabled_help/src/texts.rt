@@ -18,6 +18,7 @@ pub const HELP: &str = "Makes a table of rows and scripts, changes and writes it
 What is read
   --csv FILE                    the rows of a file of CSV (-: of standard input) as records before those of the script.
                                 Those of a further file stand behind them, without its first row, which is the same
+  --json FILE                   the records of a file of JSON, under a row of their keys, or its rows, as those of --csv
   --separator C                 the character of ASCII between fields of CSV, or tab; without it a comma
   --script FILE                 a script (-: of standard input). Without it a script is read from standard input, where
                                 there is no file of rows
@@ -32,11 +33,13 @@ What is written
                                 each column, the last one for those behind it
   --width N                     draws it in at most N columns: lines of texts are cut between words where that is needed;
                                 without it, and on a terminal, as wide as that at most
-  --to FORM                     writes it as a script (script), as without it, its texts as CSV (csv), or the table with its
-                                merged cells as HTML (html), as a page of it (html-page)
+  --to FORM                     writes it as a script (script), as without it, its texts as CSV (csv), its rows as records of
+                                JSON whose keys are the first one, in an array (json) or one a line (jsonl), or the table
+                                with its merged cells as HTML (html), as a page of it (html-page)
   --header N                    writes HTML whose first N rows are its header
   --caption TEXT                writes HTML with a caption
   --to-separator C              writes CSV with this between fields; without it that of what is read
+  --strings                     writes JSON whose values are strings, also where they are numbers, true or false
   -o FILE, --output FILE        writes it to a file, which is made only then: a fault leaves it as it was
 
 What is told

@@ -7,18 +7,19 @@ use Rattle.tabled_language.specs.Parsing.{cell_texts}
 use Rattle.tabled_language.specs.Script.{parse, parse_between}
 use Rattle.tabled_language.specs.declared.fault.Fault.{Fault}
 use Rattle.tabled_script.proofs.Common.{[], ◌∙◌, ◌≡◌, ◌⊎◌, Err, Global, LentText, List, Ok, Option, Result, Script, Vec, arith, ended, inl, inr, refl, subst, sym, ℕ}
-use Rattle.tabled_script.specs.Answer.{IsUndrawn, ShowsState, fault_line, memory_line}
+use Rattle.tabled_script.specs.Answer.{IsUnwritable, ShowsState, fault_line, memory_line}
 use Rattle.tabled_script.specs.Outcome.{Comes, ComesOfState, Ends, GivesNoTable, ShowsNoTable, ShowsTable, status_with_notes}
 use Rattle.tabled_script.specs.Status.{IsAnswer, IsDone, IsStatus, done, faulty, out_of_memory}
 use Rattle.tabled_script.specs.declared.form.Form.{Form}
 use Rattle.tabled_script.specs.declared.outcome.Outcome.{Outcome}
-use Rattle.tabled_script.specs.declared.outcome.Outcome.TheVariants.{Failed, Faulty, OutOfMemory, TooNarrow, Written}
+use Rattle.tabled_script.specs.declared.outcome.Outcome.TheVariants.{EqualKeys, Failed, Faulty, OutOfMemory, TooNarrow, Written}
 
 -- of the state that a script ends with
 pub of_end : (how : Form) (read : Result Script (ℕ × Fault)) (script : Script) (old new : Option (List ℕ)) (outcome : Outcome) → read ≡ Ok script → ComesOfState how (ended script) old new outcome → Comes how read old new outcome
 of_end how read script old new Written is shows = (script, is, shows)
 of_end how read script old new (Faulty line fault) is none = absurd none
 of_end how read script old new (TooNarrow narrow) is undrawn = (script, is, undrawn.0, undrawn.1)
+of_end how read script old new (EqualKeys keys) is undrawn = (script, is, undrawn.0, undrawn.1)
 of_end how read script old new OutOfMemory is same = same
 of_end how read script old new Failed is any = tt
 
@@ -28,6 +29,7 @@ answer_known Written true = inr refl
 answer_known Written false = inl (inl refl)
 answer_known (Faulty line fault) has_notes = inl (inr (inl refl))
 answer_known (TooNarrow narrow) has_notes = inl (inr (inl refl))
+answer_known (EqualKeys keys) has_notes = inl (inr (inl refl))
 answer_known OutOfMemory has_notes = inl (inr (inr (inl refl)))
 answer_known Failed has_notes = inl (inr (inr (inr refl)))
 
@@ -37,7 +39,9 @@ module _ (how : Form) (read : Result Script (ℕ × Fault)) (old new : Option (L
   is_done (Faulty line fault) has_notes comes (inl is) = absurd (omega (arith, is))
   is_done (Faulty line fault) has_notes comes (inr is) = absurd (omega (arith, is))
   is_done (TooNarrow narrow) has_notes comes (inl is) = absurd (omega (arith, is))
+  is_done (EqualKeys keys) has_notes comes (inl is) = absurd (omega (arith, is))
   is_done (TooNarrow narrow) has_notes comes (inr is) = absurd (omega (arith, is))
+  is_done (EqualKeys keys) has_notes comes (inr is) = absurd (omega (arith, is))
   is_done OutOfMemory has_notes comes (inl is) = absurd (omega (arith, is))
   is_done OutOfMemory has_notes comes (inr is) = absurd (omega (arith, is))
   is_done Failed has_notes comes (inl is) = absurd (omega (arith, is))
@@ -48,6 +52,7 @@ module _ (how : Form) (read : Result Script (ℕ × Fault)) (old new : Option (L
   is_faulty Written false comes is = absurd (omega (arith, is))
   is_faulty (Faulty line fault) has_notes comes is = (comes.1, inl ((line, fault), comes.0))
   is_faulty (TooNarrow narrow) has_notes comes is = (comes.3, inr (comes.0, comes.1, comes.2))
+  is_faulty (EqualKeys keys) has_notes comes is = (comes.3, inr (comes.0, comes.1, comes.2))
   is_faulty OutOfMemory has_notes comes is = absurd (omega (arith, is))
   is_faulty Failed has_notes comes is = absurd (omega (arith, is))
 
@@ -56,6 +61,7 @@ module _ (how : Form) (read : Result Script (ℕ × Fault)) (old new : Option (L
   is_out_of_memory Written false comes is = absurd (omega (arith, is))
   is_out_of_memory (Faulty line fault) has_notes comes is = absurd (omega (arith, is))
   is_out_of_memory (TooNarrow narrow) has_notes comes is = absurd (omega (arith, is))
+  is_out_of_memory (EqualKeys keys) has_notes comes is = absurd (omega (arith, is))
   is_out_of_memory OutOfMemory has_notes comes is = comes
   is_out_of_memory Failed has_notes comes is = absurd (omega (arith, is))
 
@@ -68,6 +74,7 @@ module _ (old mid new : Option (List ℕ)) (status : ℕ) where
   ends_known (Faulty line fault) (inr (inl fails)) = inr (inr (inr fails))
   ends_known (Faulty line fault) (inr (inr told)) = inr (inr (inl told.0))
   ends_known (TooNarrow narrow) ends = inr (inl ends.0)
+  ends_known (EqualKeys keys) ends = inr (inl ends.0)
   ends_known OutOfMemory (inl fails) = inr (inr (inr fails))
   ends_known OutOfMemory (inr told) = inr (inr (inl told.0))
   ends_known Failed ends = inr (inr (inr ends))
@@ -80,18 +87,20 @@ module _ (old mid new : Option (List ℕ)) (status : ℕ) where
     ends_done (Faulty line fault) comes (inr (inl fails)) is = absurd (omega (arith, is, fails))
     ends_done (Faulty line fault) comes (inr (inr told)) is = absurd (omega (arith, is, told.0))
     ends_done (TooNarrow narrow) comes ends is = absurd (omega (arith, is, ends.0))
+    ends_done (EqualKeys keys) comes ends is = absurd (omega (arith, is, ends.0))
     ends_done OutOfMemory comes (inl fails) is = absurd (omega (arith, is, fails))
     ends_done OutOfMemory comes (inr told) is = absurd (omega (arith, is, told.0))
     ends_done Failed comes ends is = absurd (omega (arith, is, ends))
 
     pub ends_faulty : (outcome : Outcome) → Comes how read old mid outcome → Ends outcome status mid new → status ≡ faulty
-        → ((fault : ℕ × Fault) × (read ≡ Err fault) × Appends old new (fault_line fault)) ⊎ ((script : Script) × (read ≡ Ok script) × IsUndrawn how (ended script))
+        → ((fault : ℕ × Fault) × (read ≡ Err fault) × Appends old new (fault_line fault)) ⊎ ((script : Script) × (read ≡ Ok script) × IsUnwritable how (ended script))
     ends_faulty Written comes ends is = absurd (omega (arith, is, ends.0))
     ends_faulty (Faulty line fault) comes (inl (inl fails)) is = absurd (omega (arith, is, fails))
     ends_faulty (Faulty line fault) comes (inl (inr told)) is = inl ((line, fault), comes.0, subst (λ it. Appends it new (fault_line (line, fault))) comes.1 told.1)
     ends_faulty (Faulty line fault) comes (inr (inl fails)) is = absurd (omega (arith, is, fails))
     ends_faulty (Faulty line fault) comes (inr (inr told)) is = absurd (omega (arith, is, told.0))
     ends_faulty (TooNarrow narrow) comes ends is = inr (comes.0, comes.1, comes.2)
+    ends_faulty (EqualKeys keys) comes ends is = inr (comes.0, comes.1, comes.2)
     ends_faulty OutOfMemory comes (inl fails) is = absurd (omega (arith, is, fails))
     ends_faulty OutOfMemory comes (inr told) is = absurd (omega (arith, is, told.0))
     ends_faulty Failed comes ends is = absurd (omega (arith, is, ends))
@@ -103,6 +112,7 @@ module _ (old mid new : Option (List ℕ)) (status : ℕ) where
     ends_out_of_memory (Faulty line fault) comes (inr (inl fails)) is = absurd (omega (arith, is, fails))
     ends_out_of_memory (Faulty line fault) comes (inr (inr told)) is = subst (λ it. Appends it new memory_line) comes.1 told.1
     ends_out_of_memory (TooNarrow narrow) comes ends is = absurd (omega (arith, is, ends.0))
+    ends_out_of_memory (EqualKeys keys) comes ends is = absurd (omega (arith, is, ends.0))
     ends_out_of_memory OutOfMemory comes (inl fails) is = absurd (omega (arith, is, fails))
     ends_out_of_memory OutOfMemory comes (inr told) is = subst (λ it. Appends it new memory_line) comes told.1
     ends_out_of_memory Failed comes ends is = absurd (omega (arith, is, ends))

@@ -8,6 +8,8 @@ use Rattle.tabled_draw.specs.Markdown.{markdown}
 use Rattle.tabled_draw.specs.Picture.{drawn, drawn_with}
 use Rattle.tabled_grid.specs.Fitting.{Fits}
 use Rattle.tabled_html.specs.Elements.{html}
+use Rattle.tabled_json.specs.Writes.{AreKeyed}
+use Rattle.tabled_json.specs.Writing.{json_of}
 use Rattle.tabled_language.specs.Faults.{fault_number}
 use Rattle.tabled_language.specs.Script.{Script, start}
 use Rattle.tabled_language.specs.declared.fault.Fault.{Fault}
@@ -15,6 +17,7 @@ use Rattle.tabled_language.specs.Output.{print}
 use Rattle.tabled_language.specs.RoundTrip.{IsTable}
 use Rattle.tabled_script.specs.Narrow.{IsNarrowPicture, narrowed}
 use Rattle.tabled_script.specs.Html.{ShowsGrid, look_of}
+use Rattle.tabled_script.specs.Keys.{HasEqualKeys}
 use Rattle.tabled_script.specs.declared.form.Form.{Form}
 use Rattle.tabled_script.specs.declared.form.Form.TheVariants as form
 use Rattle.tabled_steps.specs.States.{State}
@@ -42,16 +45,18 @@ IsWrittenAs (form.Picture style alignments) s bytes = bytes ≡ drawn_with style
 IsWrittenAs (form.NarrowPicture width style alignments) s bytes = IsNarrowPicture width style alignments.items s.texts s.spans bytes
 IsWrittenAs (form.Markdown alignments) s bytes = bytes ≡ markdown alignments.items s.texts s.spans
 IsWrittenAs (form.Csv separator) s bytes = bytes ≡ csv_of separator s.texts.cells
+IsWrittenAs (form.Json layout values) s bytes = bytes ≡ json_of layout values s.texts.cells
 IsWrittenAs (form.Html page) s bytes = bytes ≡ html s.texts s.spans (look_of page)
 
--- no picture of a state is as narrow as is asked for
-abbrev pub IsUndrawn : Form → State → Type 0
-IsUndrawn form.Script s = ⊥
-IsUndrawn (form.Picture style alignments) s = ⊥
-IsUndrawn (form.NarrowPicture width style alignments) s = narrowed width style s.spans s.texts ≡ None
-IsUndrawn (form.Markdown alignments) s = ⊥
-IsUndrawn (form.Csv separator) s = ⊥
-IsUndrawn (form.Html page) s = ⊥
+-- a state can't be written so: no picture of it is as narrow as is asked for, or two keys are equal
+abbrev pub IsUnwritable : Form → State → Type 0
+IsUnwritable form.Script s = ⊥
+IsUnwritable (form.Picture style alignments) s = ⊥
+IsUnwritable (form.NarrowPicture width style alignments) s = narrowed width style s.spans s.texts ≡ None
+IsUnwritable (form.Markdown alignments) s = ⊥
+IsUnwritable (form.Csv separator) s = ⊥
+IsUnwritable (form.Json layout values) s = HasEqualKeys s.texts.cells
+IsUnwritable (form.Html page) s = ⊥
 
 -- `line N: fault K`
 abbrev pub fault_line : ℕ × Fault → List ℕ
@@ -72,6 +77,7 @@ known_as (form.Picture style alignments) s = Unit {0}
 known_as (form.NarrowPicture width style alignments) s = Unit {0}
 known_as (form.Markdown alignments) s = Unit {0}
 known_as (form.Csv separator) s = Unit {0}
+known_as (form.Json layout values) s = AreKeyed s.texts.cells
 known_as (form.Html page) s = ShowsGrid page s.texts s.spans
 
 -- a state was written in a form, and what is known of it then

@@ -30,6 +30,7 @@ pub record Asked : Type 0 where
   pub sources : List (Kind × List ℕ)
   pub separator : Option ℕ
   pub to_separator : Option ℕ
+  pub strings : Bool
   pub header : Option ℕ
   pub caption : Option (List ℕ)
   pub script : Option (List ℕ)
@@ -55,6 +56,7 @@ is_set setting.Columns asked = is_some asked.columns
 is_set (setting.Rows kind) asked = false
 is_set setting.Separator asked = is_some asked.separator
 is_set setting.ToSeparator asked = is_some asked.to_separator
+is_set setting.Strings asked = asked.strings
 is_set setting.Header asked = is_some asked.header
 is_set setting.Caption asked = is_some asked.caption
 is_set setting.Script asked = is_some asked.script
@@ -90,6 +92,7 @@ set_to setting.Caption text asked = record asked { caption = Some text }
 set_to setting.Script name asked = record asked { script = file_named name; reads_input = asked.reads_input || is_input name }
 set_to setting.Output name asked = record asked { output = file_named name }
 set_to setting.Picture value asked = asked
+set_to setting.Strings value asked = asked
 set_to setting.Checks value asked = asked
 
 -- a setting has a value: a file of rows a name, and another one what the value means
@@ -122,6 +125,7 @@ with_value setting value asked =
 abbrev pub with_option : Option Setting → List ℕ → Asked → Result Asked Blamed
 with_option None option asked = Err (misuse.NoOption, option)
 with_option (Some setting.Picture) option asked = Ok (record asked { draws = true })
+with_option (Some setting.Strings) option asked = Ok (record asked { strings = true })
 with_option (Some setting.Checks) option asked = Ok (record asked { checks_steps = true })
 with_option (Some setting) option asked = Ok (expect (next.Value setting) asked)
 

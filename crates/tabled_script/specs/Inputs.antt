@@ -6,6 +6,9 @@ use Rattle.std.specs.Option.{option_and_then}
 use Rattle.tabled_csv.specs.Faults.{IsFault}
 use Rattle.tabled_csv.specs.Grammar.{IsCsv}
 use Rattle.tabled_csv.specs.Reading.{NoRows}
+use Rattle.tabled_json.specs.Meanings.{MeansNoTable, MeansTable}
+use Rattle.tabled_json.specs.Places.{IsPlace}
+use Rattle.tabled_json.specs.Records.{behind_mark}
 use Rattle.tabled_script.specs.declared.inputs.JoinError.{JoinError}
 use Rattle.tabled_script.specs.declared.inputs.JoinError.TheVariants as join_error
 use Rattle.tabled_script.specs.declared.inputs.RowsError.{RowsError}
@@ -21,10 +24,14 @@ use Rattle.tabled_script.specs.declared.request.Source.{Source}
 -- bytes have these rows in a format
 abbrev pub HasRowsIn : Format → List ℕ → List (List (List ℕ)) → Type 0
 HasRowsIn (format.Csv separator) bytes rows = IsCsv separator bytes rows
+HasRowsIn format.Json bytes rows = MeansTable bytes rows
 
 -- bytes have no rows in a format, as shows in a line
 abbrev pub IsFaultyIn : Format → List ℕ → ℕ → SourceFault → Type 0
 IsFaultyIn (format.Csv separator) bytes line (source_fault.Csv fault) = NoRows separator bytes × IsFault separator bytes line fault
+IsFaultyIn (format.Csv separator) bytes line (source_fault.Json column fault) = ⊥
+IsFaultyIn format.Json bytes line (source_fault.Csv fault) = ⊥
+IsFaultyIn format.Json bytes line (source_fault.Json column fault) = MeansNoTable bytes × IsPlace (behind_mark bytes) line column
 
 -- a file has these rows
 abbrev pub HasRows : Source → List (List (List ℕ)) → Type 0

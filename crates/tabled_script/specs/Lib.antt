@@ -5,6 +5,7 @@ pub mod Cuts
 pub mod Html
 pub mod InMemory
 pub mod Inputs
+pub mod Keys
 pub mod Limits
 pub mod Narrow
 pub mod Outcome

@@ -86,6 +86,7 @@ value_text setting.Caption text = name_of setting.Caption ++ codes " takes any v
 value_text setting.Separator name = name ++ codes " is no separator: one character of ASCII, but no quote, or tab"
 value_text setting.ToSeparator name = name ++ codes " is no separator: one character of ASCII, but no quote, or tab"
 value_text setting.Picture value = name_of setting.Picture ++ codes " takes no value"
+value_text setting.Strings value = name_of setting.Strings ++ codes " takes no value"
 value_text setting.Checks value = name_of setting.Checks ++ codes " takes no value"
 value_text file name = codes "no name of a file stands behind " ++ name_of file
 

@@ -5,6 +5,10 @@ use Rattle.std.specs.Option.{is_some, option_and_then, option_map, unwrap_or}
 use Rattle.std.specs.String.{string_bytes}
 use Rattle.tabled_draw.specs.Styles.{ascii}
 use Rattle.tabled_draw.specs.declared.alignment.Alignment.{Alignment}
+use Rattle.tabled_json.specs.declared.form.Layout.{Layout}
+use Rattle.tabled_json.specs.declared.form.Layout.TheVariants as layout
+use Rattle.tabled_json.specs.declared.form.Values.{Values}
+use Rattle.tabled_json.specs.declared.form.Values.TheVariants as values
 use Rattle.tabled_script.specs.Arguments.{Asked, is_set}
 use Rattle.tabled_script.specs.declared.arguments.Next.{Next}
 use Rattle.tabled_script.specs.declared.arguments.Next.TheVariants as next
@@ -37,6 +41,7 @@ nothing_asked = record {
   sources = [];
   separator = None;
   to_separator = None;
+  strings = false;
   header = None;
   caption = None;
   script = None;
@@ -49,7 +54,7 @@ nothing_asked = record {
 
 -- the settings that say what a table is written as, in the order in which they are named
 abbrev pub settings_of_forms : List Setting
-settings_of_forms = setting.Form ∷ setting.Header ∷ setting.Caption ∷ setting.Style ∷ setting.Picture ∷ setting.Alignments ∷ setting.Width ∷ setting.ToSeparator ∷ []
+settings_of_forms = setting.Form ∷ setting.Header ∷ setting.Caption ∷ setting.Style ∷ setting.Picture ∷ setting.Alignments ∷ setting.Width ∷ setting.ToSeparator ∷ setting.Strings ∷ []
 
 -- the first of them that is set
 abbrev pub deciding : Asked → Option Setting
@@ -60,6 +65,7 @@ abbrev pub written_by : Option Setting → Option Written → Written
 written_by None how = written.Script
 written_by (Some setting.Form) how = unwrap_or how written.Script
 written_by (Some setting.ToSeparator) how = written.Csv
+written_by (Some setting.Strings) how = written.Json
 written_by (Some setting.Header) how = written.Html
 written_by (Some setting.Caption) how = written.Html
 written_by (Some other) how = written.Picture
@@ -80,11 +86,16 @@ abbrev pub goes_with : Written → Setting → Bool
 goes_with _ setting.Form = true
 goes_with written.Script _ = false
 goes_with written.Picture setting.ToSeparator = false
+goes_with written.Picture setting.Strings = false
 goes_with written.Picture setting.Header = false
 goes_with written.Picture setting.Caption = false
 goes_with written.Picture _ = true
 goes_with written.Csv setting.ToSeparator = true
 goes_with written.Csv _ = false
+goes_with written.Json setting.Strings = true
+goes_with written.Json _ = false
+goes_with written.JsonLines setting.Strings = true
+goes_with written.JsonLines _ = false
 goes_with written.Html setting = says_html setting
 goes_with written.HtmlPage setting = says_html setting
 
@@ -136,19 +147,30 @@ separator_of asked = unwrap_or asked.separator 44
 abbrev pub to_separator_of : Asked → ℕ
 to_separator_of asked = unwrap_or asked.to_separator (separator_of asked)
 
+-- what texts are as values of JSON: bare where they may be, unless strings are asked for
+abbrev pub values_of : Asked → Values
+values_of asked = if asked.strings then values.Strings else values.Bare
+
+-- it is JSON, in this layout
+abbrev pub IsJson : Written → Layout → Type 0
+IsJson written.Json laid = laid ≡ layout.Array
+IsJson written.JsonLines laid = laid ≡ layout.Lines
+IsJson _ laid = ⊥
+
 -- it is HTML, and whether that is a page of its own
 abbrev pub IsHtml : Written → Bool → Type 0
 IsHtml written.Html is_whole = is_whole ≡ false
 IsHtml written.HtmlPage is_whole = is_whole ≡ true
 IsHtml _ is_whole = ⊥
 
--- how a table is to be written: as what, and drawn in what, how wide, how aligned, parted by what, and with how many rows of header under which caption
+-- how a table is to be written: as what, and drawn in what, how wide, how aligned, parted by what, with which values, and with how many rows of header under which caption
 pub record Writing : Type 0 where
   pub how : Written
   pub look : Drawn
   pub width : Option ℕ
   pub alignments : List Alignment
   pub separator : ℕ
+  pub values : Values
   pub header : ℕ
   pub caption : Option (List ℕ)
 
@@ -160,6 +182,7 @@ IsForm writing (form.NarrowPicture width style alignments) =
     (writing.how ≡ written.Picture) × (writing.look ≡ drawn.Style style) × (writing.width ≡ Some width) × (writing.alignments ≡ alignments.items)
 IsForm writing (form.Markdown alignments) = (writing.how ≡ written.Picture) × (writing.look ≡ drawn.Markdown) × (writing.alignments ≡ alignments.items)
 IsForm writing (form.Csv byte) = (writing.how ≡ written.Csv) × (writing.separator ≡ byte)
+IsForm writing (form.Json laid values) = IsJson writing.how laid × (writing.values ≡ values)
 IsForm writing (form.Html page) =
     IsHtml writing.how page.is_whole × (writing.header ≡ page.header) × (writing.caption ≡ option_map string_bytes page.caption) × (writing.alignments ≡ page.alignments.items)
 
@@ -171,6 +194,7 @@ writing_of asked = record {
   width = width_of asked;
   alignments = unwrap_or asked.alignments [];
   separator = to_separator_of asked;
+  values = values_of asked;
   header = unwrap_or asked.header 0;
   caption = asked.caption;
 }
@@ -178,6 +202,7 @@ writing_of asked = record {
 -- how the rows of a file are read
 abbrev pub format_of : ℕ → Kind → Format
 format_of separator kind.Csv = format.Csv separator
+format_of separator kind.Json = format.Json
 
 -- a source as it is asked for: its format, its name, and nothing of its bytes
 abbrev pub named_source : Source → Format × (List ℕ × List ℕ)

@@ -24,8 +24,10 @@ name_of setting.Alignments = codes "--align"
 name_of setting.Width = codes "--width"
 name_of setting.Columns = codes "--columns"
 name_of (setting.Rows kind.Csv) = codes "--csv"
+name_of (setting.Rows kind.Json) = codes "--json"
 name_of setting.Separator = codes "--separator"
 name_of setting.ToSeparator = codes "--to-separator"
+name_of setting.Strings = codes "--strings"
 name_of setting.Header = codes "--header"
 name_of setting.Caption = codes "--caption"
 name_of setting.Script = codes "--script"
@@ -42,8 +44,10 @@ options =
     ∷ (codes "--width", setting.Width)
     ∷ (codes "--columns", setting.Columns)
     ∷ (codes "--csv", setting.Rows kind.Csv)
+    ∷ (codes "--json", setting.Rows kind.Json)
     ∷ (codes "--separator", setting.Separator)
     ∷ (codes "--to-separator", setting.ToSeparator)
+    ∷ (codes "--strings", setting.Strings)
     ∷ (codes "--header", setting.Header)
     ∷ (codes "--caption", setting.Caption)
     ∷ (codes "--script", setting.Script)
@@ -54,7 +58,14 @@ options =
 
 -- what a table is written as, by name
 abbrev pub forms : List (List ℕ × Written)
-forms = (codes "script", written.Script) ∷ (codes "csv", written.Csv) ∷ (codes "html", written.Html) ∷ (codes "html-page", written.HtmlPage) ∷ []
+forms =
+    (codes "script", written.Script)
+    ∷ (codes "csv", written.Csv)
+    ∷ (codes "json", written.Json)
+    ∷ (codes "jsonl", written.JsonLines)
+    ∷ (codes "html", written.Html)
+    ∷ (codes "html-page", written.HtmlPage)
+    ∷ []
 
 -- what a list has for a name
 abbrev pub named_in : {A : Type 0} → List (List ℕ × A) → List ℕ → Option A
@@ -64,6 +75,7 @@ named_in (named ∷ others) name = if bytes_eq name named.0 then Some named.1 el
 -- a value stands behind the option
 abbrev pub takes_value : Setting → Bool
 takes_value setting.Picture = false
+takes_value setting.Strings = false
 takes_value setting.Checks = false
 takes_value other = true
 
@@ -101,4 +113,6 @@ separator_of name = if bytes_eq name (codes "tab") then Some 9 else sole_separat
 abbrev pub read_by : List ℕ → Option (List ℕ)
 read_by name =
     if ends_with ◌==◌ name (codes ".csv") then Some (codes "--csv")
-    else (if ends_with ◌==◌ name (codes ".tsv") then Some (codes "--separator tab --csv") else None)
+    else (if ends_with ◌==◌ name (codes ".tsv") then Some (codes "--separator tab --csv")
+    else (if ends_with ◌==◌ name (codes ".json") then Some (codes "--json")
+    else (if ends_with ◌==◌ name (codes ".jsonl") then Some (codes "--json") else None)))

@@ -9,7 +9,7 @@ done = 0
 abbrev pub refused : ℕ
 refused = 1
 
--- a fault was told, or nothing for want of width
+-- a fault was told, or nothing was written since the table can't be written so
 abbrev pub faulty : ℕ
 faulty = 2
 

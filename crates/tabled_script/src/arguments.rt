@@ -45,6 +45,7 @@ pub struct Arguments {
     pub(crate) sources: Vec<(Kind, String)>,
     pub(crate) separator: Option<Separator>,
     pub(crate) to_separator: Option<Separator>,
+    pub(crate) strings: bool,
     pub(crate) header: Option<usize>,
     pub(crate) caption: Option<String>,
     pub(crate) script: Option<String>,
@@ -77,6 +78,7 @@ impl Model for Arguments {
       sources = named_files a.sources.items;
       separator = a.separator;
       to_separator = a.to_separator;
+      strings = a.strings;
       header = a.header;
       caption = option_map string_bytes a.caption;
       script = option_map string_bytes a.script;
@@ -104,6 +106,7 @@ impl Arguments {
             sources: Vec::new(alloc),
             separator: None,
             to_separator: None,
+            strings: false,
             header: None,
             caption: None,
             script: None,
@@ -150,6 +153,10 @@ impl Arguments {
             None => Err(misused(alloc, Misuse::NoOption, option)),
             Some(Setting::Picture) => {
                 self.draws = true;
+                Ok(self)
+            }
+            Some(Setting::Strings) => {
+                self.strings = true;
                 Ok(self)
             }
             Some(Setting::Checks) => {
@@ -242,7 +249,7 @@ impl Arguments {
                 self.sources.push((kind, String::from_str(alloc, value)?))?;
                 self.reads_input = self.reads_input || is_input(value);
             }
-            Setting::Picture | Setting::Checks => {}
+            Setting::Picture | Setting::Strings | Setting::Checks => {}
         }
         Ok(())
     }
@@ -271,6 +278,7 @@ impl Arguments {
             Setting::Rows(_) => false,
             Setting::Separator => self.separator.is_some(),
             Setting::ToSeparator => self.to_separator.is_some(),
+            Setting::Strings => self.strings,
             Setting::Header => self.header.is_some(),
             Setting::Caption => self.caption.is_some(),
             Setting::Script => self.script.is_some(),

@@ -1,12 +1,11 @@
 //! A table as CSV, and the rows of CSV.
 
 ghost use Rattle.std.specs.Io.KnownBytes.{Appends};
-ghost use Rattle.std.specs.Prelude.{◌≡◌, IfOk, MatchResult, OnErr, map};
+ghost use Rattle.std.specs.Prelude.{◌≡◌, MatchResult, OnErr};
 ghost use Rattle.tabled_csv.specs.Grammar.{IsCsv};
-ghost use Rattle.tabled_csv.specs.Texts.{rows_of, text_of};
 ghost use Rattle.tabled_csv.specs.Writing.{csv_of};
 ghost use Rattle.tabled_grid.specs.Grid.{IsEven, grid_of, map_items};
-ghost use Rattle.tabled_language.specs.Lent.{texts_in_records, texts_in_row};
+ghost use Rattle.tabled_language.specs.Lent.{texts_in_records};
 ghost use Rattle.tabled_script.specs.InMemory.{texts_in};
 ghost use Rattle.tabled_script.specs.Inputs.{NoRowsIn};
 ghost use Rattle.tabled_script.specs.Outcome.{IfWritten};

@@ -6,6 +6,7 @@ ghost use Rattle.tabled_script.specs.Outcome.{ComesOfState};
 
 use crate::csv_form::write_csv;
 use crate::html_form::{HtmlPage, write_html};
+use crate::json_form::write_json;
 use crate::outcome::Outcome;
 use crate::picture::{write_markdown, write_narrow_picture, write_picture};
 use crate::script_form::write_script;
@@ -14,6 +15,7 @@ use std::io::Write;
 use tabled_csv::Separator;
 use tabled_draw::{Alignment, Style};
 use tabled_grid::config::SpannedConfig;
+use tabled_json::{Layout, Values};
 use tabled_language::LentText;
 
 /// What a table is written as.
@@ -33,13 +35,15 @@ pub enum Form {
     Markdown(Vec<Alignment>),
     /// The texts of its cells as CSV, those of hidden cells, too.
     Csv(Separator),
+    /// Records as JSON, whose keys are the first row: the texts of the cells, those of hidden cells, too.
+    Json(Layout, Values),
     /// HTML, with its merged cells: a table, or a page of its own.
     Html(HtmlPage),
 }
 
 impl Form {
     /// Writes a table, and flushes the writer. All memory is asked for before the first byte: refused, nothing
-    /// is written. Where no picture is as narrow as is asked for, nothing is written, too.
+    /// is written. Where no picture is as narrow as is asked for, or two keys are equal, nothing is written, too.
     pub(crate) fn write<W: Write>(
         &self,
         alloc: Global,
@@ -63,6 +67,9 @@ impl Form {
             )),
             Form::Csv(separator) => {
                 Outcome::of_writing(write_csv(alloc, &records, *separator, writer))
+            }
+            Form::Json(layout, values) => {
+                Outcome::of_records(write_json(alloc, &records, *layout, *values, writer))
             }
             Form::Html(page) => {
                 Outcome::of_writing(write_html(alloc, &records, spans, page, writer))

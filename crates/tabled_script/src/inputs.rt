@@ -10,10 +10,11 @@ ghost use Rattle.tabled_script.specs.Inputs.{HasRows, HasTable, NoRowsIn, NoTabl
 ghost use Rattle.tabled_script.specs.Outcome.{status_of_error};
 
 use crate::csv_form::csv_rows;
+use crate::json_form::json_rows;
 use crate::outcome::{FAULTY, OUT_OF_MEMORY};
 use crate::request::{Format, Source};
+use crate::room::{Rooms, Spares};
 use std::alloc::{AllocError, Global};
-use tabled_csv::{Room, Spare};
 use tabled_grid::records::CellText;
 use tabled_language::LentText;
 
@@ -21,6 +22,11 @@ use tabled_language::LentText;
 #[derive(Clone, Copy)]
 pub(crate) enum SourceFault {
     Csv(tabled_csv::Fault),
+    /// It shows at a byte of the line, counted from 1.
+    Json {
+        column: usize,
+        fault: tabled_json::Fault,
+    },
 }
 
 /// Why a file has no rows.
@@ -69,18 +75,18 @@ impl SourcesError<'_> {
 pub(crate) fn rows_of_sources<'a>(
     alloc: Global,
     sources: &'a [Source],
-    room: &'a mut Room,
+    rooms: &'a mut Rooms,
 ) -> Result<Vec<Vec<LentText<'a>>>, SourcesError<'a>>
     ensures { MatchResult result (λ rows. HasTable sources.now (texts_in_records rows.items)) (NoTable sources.now) }
 {
-    let mut spare = Spare::new(room);
+    let mut spares = rooms.spares();
     let mut rows = Vec::new(alloc);
     let mut index = 0;
     // The file whose first row is that of the rows.
     let mut of = 0;
     for source in sources {
         of = first_of(&rows, index, of);
-        match rows_of(alloc, source, &mut spare) {
+        match rows_of(alloc, source, &mut spares) {
             Ok(others) => match joined(rows, others, of) {
                 Ok(all) => rows = all,
                 Err(error) => return Err(SourcesError::Unjoined(index, error)),
@@ -101,12 +107,13 @@ fn first_of(rows: &[Vec<LentText>], index: usize, of: usize) -> usize {
 fn rows_of<'a>(
     alloc: Global,
     source: &'a Source,
-    spare: &mut Spare<'a>,
+    spares: &mut Spares<'a>,
 ) -> Result<Vec<Vec<LentText<'a>>>, RowsError>
     ensures { MatchResult result (λ rows. HasRows source.now (texts_in_records rows.items)) (NoRowsIn source.now.format source.now.bytes.items) }
 {
     match source.format {
-        Format::Csv(separator) => csv_rows(alloc, separator, &source.bytes, spare),
+        Format::Csv(separator) => csv_rows(alloc, separator, &source.bytes, &mut spares.csv),
+        Format::Json => json_rows(alloc, &source.bytes, &mut spares.json),
     }
 }
 

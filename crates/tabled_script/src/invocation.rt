@@ -5,7 +5,7 @@ ghost use Rattle.std.specs.Option.{option_map, unwrap_or};
 ghost use Rattle.std.specs.Prelude.{◌≡◌, ◌++◌, ◌&&◌, ◌==◌, [], IfErr, IfOk, None, length, map, not};
 ghost use Rattle.std.specs.String.{string_bytes};
 ghost use Rattle.tabled_script.specs.Arguments.{is_set, named_files, step_of, words_of};
-ghost use Rattle.tabled_script.specs.Requests.{IsForm, IsUnmade, awaited, contradiction, deciding, drawn_of, files_of, format_of, goes_with, named_source, says_html, says_something, script_of, separator_of, settings_of_forms, to_separator_of, unread_files, writing_of, width_of, written_of};
+ghost use Rattle.tabled_script.specs.Requests.{IsForm, IsUnmade, awaited, contradiction, deciding, drawn_of, files_of, format_of, goes_with, named_source, says_html, says_something, script_of, separator_of, settings_of_forms, to_separator_of, unread_files, values_of, writing_of, width_of, written_of};
 
 use crate::arguments::{Arguments, Next, push_step};
 use crate::form::Form;
@@ -16,6 +16,7 @@ use crate::setting::{Drawn, Kind, Setting, Written};
 use std::alloc::{AllocError, Global};
 use tabled_csv::Separator;
 use tabled_draw::{Alignment, Style};
+use tabled_json::{Layout, Values};
 
 /// What the arguments ask for.
 ///
@@ -31,7 +32,7 @@ pub struct Invocation {
 }
 
 /// The settings that say what a table is written as, in the order in which they are named.
-const SETTINGS_OF_FORMS: [Setting; 8] = [
+const SETTINGS_OF_FORMS: [Setting; 9] = [
     Setting::Form,
     Setting::Header,
     Setting::Caption,
@@ -40,6 +41,7 @@ const SETTINGS_OF_FORMS: [Setting; 8] = [
     Setting::Alignments,
     Setting::Width,
     Setting::ToSeparator,
+    Setting::Strings,
 ];
 
 impl Arguments {
@@ -67,6 +69,7 @@ impl Arguments {
         let width = self.picture_width();
         let separator = self.read_separator();
         let to_separator = self.written_separator();
+        let values = self.values();
         let header = self.header_rows();
         let is_alone = self.is_without_files();
         let Arguments {
@@ -89,6 +92,7 @@ impl Arguments {
             width,
             alignments,
             to_separator,
+            values,
             header,
             caption,
         );
@@ -145,6 +149,17 @@ impl Arguments {
         }
     }
 
+    /// What texts are as values of JSON: bare where they may be, unless strings are asked for.
+    fn values(&self) -> Values
+        ensures { result ≡ values_of self.now }
+    {
+        if self.strings {
+            Values::Strings
+        } else {
+            Values::Bare
+        }
+    }
+
     /// How many rows are the header of a table of HTML.
     fn header_rows(&self) -> usize
         ensures { result ≡ unwrap_or self.now.header 0 }
@@ -167,6 +182,7 @@ impl Arguments {
             None => Written::Script,
             Some(Setting::Form) => self.written.unwrap_or(Written::Script),
             Some(Setting::ToSeparator) => Written::Csv,
+            Some(Setting::Strings) => Written::Json,
             Some(Setting::Header | Setting::Caption) => Written::Html,
             Some(_) => Written::Picture,
         }
@@ -219,9 +235,10 @@ fn goes_with(written: Written, setting: Setting) -> bool
         (Written::Script, _) => false,
         (Written::Picture, _) => !matches!(
             setting,
-            Setting::ToSeparator | Setting::Header | Setting::Caption
+            Setting::ToSeparator | Setting::Strings | Setting::Header | Setting::Caption
         ),
         (Written::Csv, _) => setting == Setting::ToSeparator,
+        (Written::Json | Written::JsonLines, _) => setting == Setting::Strings,
         (Written::Html | Written::HtmlPage, _) => says_html(setting),
     }
 }
@@ -236,14 +253,15 @@ fn says_html(setting: Setting) -> bool
     )
 }
 
-/// The form of what a table is written as and drawn in, how wide, how aligned, parted by what, and with how many rows of
-/// header under which caption.
+/// The form of what a table is written as and drawn in, how wide, how aligned, parted by what, with which values, and with
+/// how many rows of header under which caption.
 fn form_of(
     written: Written,
     look: Drawn,
     width: Option<usize>,
     alignments: Vec<Alignment>,
     separator: Separator,
+    values: Values,
     header: usize,
     caption: Option<String>,
 ) -> Form
@@ -253,6 +271,7 @@ fn form_of(
       width = width;
       alignments = alignments.items;
       separator = separator;
+      values = values;
       header = header;
       caption = option_map string_bytes caption;
     }) result }
@@ -260,6 +279,8 @@ fn form_of(
     match written {
         Written::Script => Form::Script,
         Written::Csv => Form::Csv(separator),
+        Written::Json => Form::Json(Layout::Array, values),
+        Written::JsonLines => Form::Json(Layout::Lines, values),
         Written::Html => Form::Html(HtmlPage {
             header,
             caption,
@@ -329,5 +350,6 @@ fn format_of(kind: Kind, separator: Separator) -> Format
 {
     match kind {
         Kind::Csv => Format::Csv(separator),
+        Kind::Json => Format::Json,
     }
 }

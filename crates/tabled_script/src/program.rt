@@ -19,10 +19,10 @@ use crate::notes::Notes;
 use crate::outcome::{FAILED, FAULTY, OUT_OF_MEMORY, Outcome};
 use crate::reading::{Unread, read_whole};
 use crate::request::Request;
+use crate::room::Rooms;
 use crate::telling::{Lines, tell_outcome, tell_ragged, tell_sources_error, tell_status};
 use std::alloc::{AllocError, Global};
 use std::io::{self, Read, Write};
-use tabled_csv::Room;
 use tabled_draw::Style;
 use tabled_language::Fault;
 
@@ -75,7 +75,8 @@ pub fn draw_script<R: Read, W: Write>(alloc: Global, reader: &mut R, writer: &mu
 ///
 /// - 0: the table was written.
 /// - 2: a file has no rows, or begins with another row than those before it; or a line of the script or a step of the
-///   request is faulty; or no picture is as narrow as is asked for. Nothing was written.
+///   request is faulty; or no picture is as narrow as is asked for, or two columns have
+///   the same key. Nothing was written.
 /// - 3: memory ran out, and nothing was written.
 /// - 4: writing failed, and nothing is said of what was written.
 /// - 5: the table was written, and what was checked is doubtful, as was told.
@@ -104,15 +105,15 @@ pub fn answer<W: Write, E: Write>(
     ensures faulty { result ≡ faulty → (W.contents writer.new ≡ W.contents writer.old) × FindsNoTable request.now script.now }
     ensures memory { result ≡ out_of_memory → W.contents writer.new ≡ W.contents writer.old }
 {
-    let mut room = match Room::new(alloc) {
-        Ok(room) => room,
+    let mut rooms = match Rooms::new(alloc) {
+        Ok(rooms) => rooms,
         Err(_) => {
             tell_status(OUT_OF_MEMORY, errors);
             return OUT_OF_MEMORY;
         }
     };
     let sources = request.sources.as_slice();
-    match rows_of_sources(alloc, sources, &mut room) {
+    match rows_of_sources(alloc, sources, &mut rooms) {
         Ok(rows) => {
             let lines = Lines {
                 rows: rows.len(),
@@ -122,7 +123,7 @@ pub fn answer<W: Write, E: Write>(
             let mut notes = Notes::new(errors);
             tell_ragged(alloc, request, &rows, &mut notes);
             let outcome = run_between(alloc, request, rows, script, writer, &mut notes);
-            tell_outcome(alloc, lines, outcome, notes.errors);
+            tell_outcome(alloc, lines, &outcome, notes.errors);
             outcome.status_with_notes(request.checks_steps && notes.has_notes)
         }
         Err(error) => {
@@ -164,7 +165,9 @@ pub(crate) fn write_end<W: Write>(alloc: Global, outcome: Outcome, writer: &mut 
             Err(_) => write_status(writer, MEMORY_LINE, OUT_OF_MEMORY),
         },
         Outcome::OutOfMemory => write_status(writer, MEMORY_LINE, OUT_OF_MEMORY),
-        Outcome::Written | Outcome::TooNarrow(_) | Outcome::Failed => outcome.status(),
+        Outcome::Written | Outcome::TooNarrow(_) | Outcome::EqualKeys(_) | Outcome::Failed => {
+            outcome.status()
+        }
     }
 }
 

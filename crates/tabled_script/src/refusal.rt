@@ -272,7 +272,7 @@ fn value_text(alloc: Global, setting: Setting, value: &str) -> Result<String, Al
             let option = setting.name();
             format!(in alloc; "no name of a file stands behind {option}")
         }
-        Setting::Picture | Setting::Checks => {
+        Setting::Picture | Setting::Strings | Setting::Checks => {
             let option = setting.name();
             format!(in alloc; "{option} takes no value")
         }

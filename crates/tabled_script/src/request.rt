@@ -11,6 +11,8 @@ use tabled_csv::Separator;
 pub enum Format {
     /// CSV, with what parts its fields.
     Csv(Separator),
+    /// JSON: records, or rows as they are.
+    Json,
 }
 
 /// A file of rows.

@@ -32,6 +32,8 @@ pub enum Setting {
     Separator,
     /// What parts the fields of CSV that is written.
     ToSeparator,
+    /// That all values of JSON that is written are strings.
+    Strings,
     /// How many rows are the header of a table of HTML.
     Header,
     /// The caption of a table of HTML.
@@ -50,6 +52,7 @@ pub enum Setting {
 #[derive(Clone, Copy, Debug, PartialEq, Eq)]
 pub enum Kind {
     Csv,
+    Json,
 }
 
 /// What a table is written as.
@@ -58,6 +61,8 @@ pub(crate) enum Written {
     Script,
     Picture,
     Csv,
+    Json,
+    JsonLines,
     Html,
     HtmlPage,
 }
@@ -70,7 +75,7 @@ pub(crate) enum Drawn {
 }
 
 /// The names of the options, those of what is told in place of a table, too.
-pub(crate) const OPTIONS: [&'static str; 18] = [
+pub(crate) const OPTIONS: [&'static str; 20] = [
     "--to",
     "--draw",
     "--style",
@@ -78,8 +83,10 @@ pub(crate) const OPTIONS: [&'static str; 18] = [
     "--width",
     "--columns",
     "--csv",
+    "--json",
     "--separator",
     "--to-separator",
+    "--strings",
     "--header",
     "--caption",
     "--script",
@@ -92,7 +99,7 @@ pub(crate) const OPTIONS: [&'static str; 18] = [
 ];
 
 /// The names of what a table is written as.
-pub(crate) const FORMS: [&'static str; 4] = ["script", "csv", "html", "html-page"];
+pub(crate) const FORMS: [&'static str; 6] = ["script", "csv", "json", "jsonl", "html", "html-page"];
 
 impl Setting {
     /// The setting of an option.
@@ -107,8 +114,10 @@ impl Setting {
             "--width" => Some(Setting::Width),
             "--columns" => Some(Setting::Columns),
             "--csv" => Some(Setting::Rows(Kind::Csv)),
+            "--json" => Some(Setting::Rows(Kind::Json)),
             "--separator" => Some(Setting::Separator),
             "--to-separator" => Some(Setting::ToSeparator),
+            "--strings" => Some(Setting::Strings),
             "--header" => Some(Setting::Header),
             "--caption" => Some(Setting::Caption),
             "--script" => Some(Setting::Script),
@@ -132,6 +141,7 @@ impl Setting {
             Setting::Rows(kind) => kind.option(),
             Setting::Separator => "--separator",
             Setting::ToSeparator => "--to-separator",
+            Setting::Strings => "--strings",
             Setting::Header => "--header",
             Setting::Caption => "--caption",
             Setting::Script => "--script",
@@ -144,7 +154,7 @@ impl Setting {
     pub(crate) fn takes_value(self) -> bool
         ensures { result ≡ takes_value self }
     {
-        !matches!(self, Setting::Picture | Setting::Checks)
+        !matches!(self, Setting::Picture | Setting::Strings | Setting::Checks)
     }
 }
 
@@ -155,6 +165,7 @@ impl Kind {
     {
         match self {
             Kind::Csv => "--csv",
+            Kind::Json => "--json",
         }
     }
 }
@@ -166,6 +177,8 @@ pub(crate) fn written_named(name: &str) -> Option<Written>
     match name {
         "script" => Some(Written::Script),
         "csv" => Some(Written::Csv),
+        "json" => Some(Written::Json),
+        "jsonl" => Some(Written::JsonLines),
         "html" => Some(Written::Html),
         "html-page" => Some(Written::HtmlPage),
         _ => None,
@@ -234,6 +247,12 @@ pub(crate) fn read_by(name: &str) -> Option<&'static str>
     }
     if name.ends_with(".tsv") {
         return Some("--separator tab --csv");
+    }
+    if name.ends_with(".json") {
+        return Some("--json");
+    }
+    if name.ends_with(".jsonl") {
+        return Some("--json");
     }
     None
 }

@@ -1,6 +1,8 @@
 //! What is told beside the answer: of lines, of files, and of a status.
 
+use crate::cures::cure_of_json;
 use crate::inputs::{JoinError, RowsError, SourceFault, SourcesError, lent_step};
+use crate::json_form::EqualKeys;
 use crate::message::{complaint, push_quoted};
 use crate::notes::Notes;
 use crate::outcome::{FAILED, OUT_OF_MEMORY, Outcome};
@@ -153,17 +155,18 @@ impl ToldWords {
 }
 
 /// Tells of what comes of a script that isn't its table: where its first faulty line stands, the word at fault and the
-/// likely cure, and its words as they were read; or how many columns a picture takes; or that memory ran out. Nothing is told
-/// where that can't be written, or memory runs out.
+/// likely cure, and its words as they were read; or how many columns a picture takes; or which key stands twice; or that
+/// memory ran out. Nothing is told where that can't be written, or memory runs out.
 pub(crate) fn tell_outcome<E: Write>(
     alloc: Global,
     lines: Lines,
-    outcome: Outcome,
+    outcome: &Outcome,
     errors: &mut E,
 ) {
     match outcome {
-        Outcome::Faulty(number, fault) => tell(fault_lines(alloc, lines, number, fault), errors),
+        Outcome::Faulty(number, fault) => tell(fault_lines(alloc, lines, *number, *fault), errors),
         Outcome::TooNarrow(narrow) => narrow.tell(alloc, errors),
+        Outcome::EqualKeys(keys) => tell(equal_keys_line(alloc, keys), errors),
         Outcome::OutOfMemory => tell_status(OUT_OF_MEMORY, errors),
         // Who gives the writer knows why it failed.
         Outcome::Written | Outcome::Failed => {}
@@ -307,7 +310,26 @@ fn source_fault_line(
         SourceFault::Csv(fault) => {
             format!(in alloc; "tabled_script: {name}: line {line}: {fault}\n")
         }
+        SourceFault::Json { column, fault } => {
+            let cure = cure_of_json(fault);
+            format!(in alloc;
+                "tabled_script: {name}: line {line}, column {column}: {fault}: {cure}\n"
+            )
+        }
     }
+}
+
+/// A line that says which key stands in two columns.
+fn equal_keys_line(alloc: Global, keys: &EqualKeys) -> Result<String, AllocError> {
+    let (first, second) = (keys.first, keys.second);
+    let mut told = format!(in alloc;
+        "tabled_script: columns {first} and {second} have one key in the first row, where records need different ones:"
+    )?;
+    let mut key = ToldWords::new(alloc);
+    key.push(alloc, keys.key.as_bytes())?;
+    key.push_to(&mut told)?;
+    told.push('\n')?;
+    Ok(told)
 }
 
 /// How bytes that aren't UTF-8 are likely encoded: UTF-16 begins with its mark.

@@ -7,6 +7,7 @@ pub mod csv;
 pub mod decimals;
 pub mod geometry;
 pub mod helping;
+pub mod json;
 pub mod language;
 pub mod merged;
 pub mod options;

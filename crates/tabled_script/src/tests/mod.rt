@@ -9,7 +9,7 @@ use tabled_language::Fault;
 
 #[test]
 fn says_how_it_ended(rt: HostRuntime) -> Result<(), Fail> {
-    for &(outcome, status, bytes) in &[
+    for (outcome, status, bytes) in [
         (Outcome::Written, 0, ""),
         (Outcome::Faulty(12, Fault::Escape), 2, "line 12: fault 4\n"),
         (Outcome::OutOfMemory, 3, "out of memory\n"),

@@ -188,6 +188,40 @@ fn arguments_ask_for_steps_and_forms(rt: HostRuntime) -> Result<(), Fail> {
             "a,b\n",
             "",
         ),
+        // Records have the first row as their keys, and numbers, true and false stand bare, unless strings are asked for.
+        (
+            "--to|json|set|cell|1|1|1.10",
+            "",
+            "row\ta\tb\nrow\tx\nrow\ttrue\t01\nspan\t1\t0\t1\t2\n",
+            0,
+            "[{\"a\":\"x\",\"b\":1.10},\n{\"a\":true,\"b\":\"01\"}]\n",
+            "",
+        ),
+        (
+            "--to|jsonl|--strings|--json|f",
+            "[{\"a\":1,\"b\":\"\\t\"},{\"a\":null}]",
+            "",
+            0,
+            "{\"a\":\"1\",\"b\":\"\\u0009\"}\n{\"a\":\"\",\"b\":\"\"}\n",
+            "",
+        ),
+        (
+            "--json|f|--strings",
+            "{\"a\":1}",
+            "",
+            0,
+            "[{\"a\":\"1\"}]\n",
+            "",
+        ),
+        ("--to|json|row|a", "", "", 0, "[]\n", ""),
+        (
+            "--to|json|row|a|b|a|then|row|1",
+            "",
+            "",
+            2,
+            "",
+            "tabled_script: columns 0 and 2 have one key in the first row, where records need different ones: 'a'\n",
+        ),
         // HTML has merged cells, and what is asked for of it.
         (
             "--to|html|set|cell|1|0|<br>",
@@ -404,6 +438,19 @@ fn what_cannot_be_asked_is_refused(rt: HostRuntime) -> Result<(), Fail> {
         ),
         ("--check|--csv", "--csv lacks its value"),
         ("--draw=yes", "--draw takes no value"),
+        ("--strings=yes", "--strings takes no value"),
+        (
+            "--to|csv|--strings",
+            "--to and --strings contradict each other",
+        ),
+        (
+            "--strings|--style|dots",
+            "--style and --strings contradict each other",
+        ),
+        (
+            "--to|json|--to-separator|;",
+            "--to and --to-separator contradict each other",
+        ),
         (
             "--style|Modern",
             "there is no style Modern: ascii modern rounded sharp extended psql markdown re_structured_text dots ascii_rounded blank empty",
@@ -422,7 +469,7 @@ fn what_cannot_be_asked_is_refused(rt: HostRuntime) -> Result<(), Fail> {
         ),
         (
             "--to|tsv",
-            "there is no form tsv: script csv html html-page",
+            "there is no form tsv: script csv json jsonl html html-page",
         ),
         ("--width|+9", "+9 is no number of columns"),
         ("--columns=", " is no number of columns"),
@@ -444,7 +491,13 @@ fn what_cannot_be_asked_is_refused(rt: HostRuntime) -> Result<(), Fail> {
             "--csv|-|--csv|f|--script|-",
             "standard input is read once: - stands here twice",
         ),
+        (
+            "--json|-|--csv|-",
+            "standard input is read once: - stands here twice",
+        ),
         ("sales.csv", "sales.csv is a file: --csv sales.csv"),
+        ("a.json", "a.json is a file: --json a.json"),
+        ("b.jsonl", "b.jsonl is a file: --json b.jsonl"),
         (
             "--csv|f|row|f.csv|then|g.tsv",
             "g.tsv is a file: --separator tab --csv g.tsv",
@@ -494,6 +547,7 @@ fn files_are_named(rt: HostRuntime) -> Result<(), Fail> {
         ("--draw", "", "-", ""),
         ("--csv|b|--csv|a|row|c", "b a ", "", ""),
         ("--csv|-|--script|s|-o|t", "- ", "s", "t"),
+        ("--json|b|--csv|a|--json|c", "b a c ", "", ""),
         ("--script|s|--output=-", "", "s", "-"),
     ] {
         let named = match invocation(alloc, arguments, "") {

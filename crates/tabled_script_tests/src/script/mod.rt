@@ -5,6 +5,7 @@ mod arguments;
 mod faults;
 mod gallery;
 mod help;
+mod json;
 mod refusals;
 mod sources;
 mod widths;

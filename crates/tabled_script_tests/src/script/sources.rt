@@ -5,7 +5,7 @@ use std::test::Fail;
 use tabled_csv::Separator;
 use tabled_script::{Form, Format, Request, Source, answer};
 
-/// Files of CSV, in order, parted by bars: each has its name, an equals sign and its text.
+/// Files, in order, parted by bars: each has its name, an equals sign and its text. By their names they are JSON or CSV.
 fn sources(alloc: Global, files: &str) -> Result<Vec<Source>, AllocError> {
     let mut sources = Vec::new(alloc);
     for file in files.split('|') {
@@ -14,9 +14,14 @@ fn sources(alloc: Global, files: &str) -> Result<Vec<Source>, AllocError> {
         };
         let mut bytes = Vec::new(alloc);
         bytes.extend_from_slice(text.as_bytes())?;
+        let format = if name.ends_with(".json") {
+            Format::Json
+        } else {
+            Format::Csv(Separator::comma())
+        };
         sources.push(Source {
             name: String::from_str(alloc, name)?,
-            format: Format::Csv(Separator::comma()),
+            format,
             bytes,
         })?;
     }
@@ -61,6 +66,39 @@ fn rows_of_files_stand_one_behind_another(rt: HostRuntime) -> Result<(), Fail> {
             0,
             "h\nn\nc\n",
             "",
+        ),
+        // Records and rows of JSON stand behind others, under the same keys.
+        (
+            "a=n,m\n1,2\n|b.json=[{\"n\":1.0,\"m\":true},{\"m\":\"a\\\"b\"}]|c.json=[[\"n\",\"m\"],[3]]|d.json=[]",
+            "",
+            "",
+            0,
+            "n,m\n1,2\n1.0,true\n,\"a\"\"b\"\n3,\n",
+            "",
+        ),
+        (
+            "a.json={\"n\":[1, {}]}\n{\"m\":null,\"n\":2}",
+            "row\tx\ty\n",
+            "set row 1 z",
+            0,
+            "n,m\nz,z\n2,\nx,y\n",
+            "",
+        ),
+        (
+            "a.json={\"n\":1}|b.json={\"m\":1}",
+            "",
+            "",
+            2,
+            "",
+            "tabled_script: b.json: its first row is not that of the files before it\n  'm' in place of 'n'\n",
+        ),
+        (
+            "a=n\n|b.json=[{\"n\":1},\n{\"n\":2},]",
+            "spin",
+            "",
+            2,
+            "",
+            "tabled_script: b.json: line 2, column 9: a closing bracket is not wanted here: leave it out, or the comma before it\n",
         ),
         // First rows that differ in a text, in the last text, and in their length.
         (

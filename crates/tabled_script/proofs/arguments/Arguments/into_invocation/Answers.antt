@@ -11,11 +11,11 @@ use Rattle.tabled_script.proofs.arguments.Arguments.into_invocation.Goals as goa
 
 pub returns-clause-form : goal.returns-clause-form
 returns-clause-form c =
-    written_so c.args.self c.written-written.result c.look-look.result c.picture_width-width.result c.listed-alignments.result.items c.written_separator-to_separator.result
+    written_so c.args.self c.written-written.result c.look-look.result c.picture_width-width.result c.listed-alignments.result.items c.written_separator-to_separator.result c.values-values.result
     c.header_rows-header.result (option_map string_bytes c.self.inside.caption) c.form_of-form.result c.form_of-form.ensures
     c.written-written.ensures c.look-look.ensures c.picture_width-width.ensures
     (c.listed-alignments.ensures ∙ ap (λ (a : Asked). unwrap_or a.alignments []) c.self.view_is)
-    c.written_separator-to_separator.ensures c.header_rows-header.ensures (ap (λ (a : Asked). a.caption) c.self.view_is)
+    c.written_separator-to_separator.ensures c.values-values.ensures c.header_rows-header.ensures (ap (λ (a : Asked). a.caption) c.self.view_is)
 
 pub returns-clause-sources : goal.returns-clause-sources
 returns-clause-sources c =

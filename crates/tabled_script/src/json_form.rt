@@ -1,0 +1,98 @@
+//! A table as JSON, and the rows of JSON.
+
+ghost use Rattle.std.specs.Io.KnownBytes.{Appends};
+ghost use Rattle.std.specs.Prelude.{◌≡◌, MatchResult, OnErr};
+ghost use Rattle.tabled_grid.specs.Grid.{IsEven, grid_of, map_items};
+ghost use Rattle.tabled_json.specs.Meanings.{MeansTable};
+ghost use Rattle.tabled_json.specs.Writes.{AreKeyed};
+ghost use Rattle.tabled_json.specs.Writing.{json_of};
+ghost use Rattle.tabled_language.specs.Lent.{texts_in_records};
+ghost use Rattle.tabled_script.specs.InMemory.{texts_in};
+ghost use Rattle.tabled_script.specs.Inputs.{NoRowsIn};
+ghost use Rattle.tabled_script.specs.Keys.{HasEqualKeys};
+ghost use Rattle.tabled_script.specs.Outcome.{IfDrawn, IfUndrawn};
+ghost use Rattle.tabled_script.specs.declared.request.Format.TheVariants.{Json};
+
+use crate::inputs::{RowsError, SourceFault};
+use crate::lending::lent_rows;
+use std::alloc::{AllocError, Global};
+use std::io::{self, Write};
+use tabled_grid::records::CellText;
+use tabled_json::{Layout, ReadError, Spare, Values, WriteError, read_table_with, write_records};
+use tabled_language::LentText;
+
+/// A key that stands in two columns of the first row, which are counted from 0.
+#[derive(Drop)]
+pub(crate) struct EqualKeys {
+    pub(crate) key: String,
+    pub(crate) first: usize,
+    pub(crate) second: usize,
+}
+
+/// Writes the rows of a table as records whose keys are the first row, and flushes the writer. All memory is asked for
+/// before the first byte: refused, nothing is written. Where two keys are equal, nothing is written, too.
+pub(crate) fn write_json<W: Write>(
+    alloc: Global,
+    records: &Vec<Vec<LentText>>,
+    layout: Layout,
+    values: Values,
+    writer: &mut W,
+) -> Result<Result<io::Result<()>, EqualKeys>, AllocError>
+    requires { IsEven (grid_of (map_items records.now.items)) }
+    ensures written { IfDrawn result (
+        Appends (W.contents writer.old) (W.contents writer.new) (json_of layout values (texts_in records.now.items).cells)) }
+    ensures keyed { IfDrawn result (AreKeyed (texts_in records.now.items).cells) }
+    ensures equal { IfUndrawn result (λ _. HasEqualKeys (texts_in records.now.items).cells) }
+    ensures left { IfUndrawn result (λ _. W.contents writer.new ≡ W.contents writer.old) }
+    ensures refused { OnErr result (W.contents writer.new ≡ W.contents writer.old) }
+{
+    match write_records(alloc, writer, layout, values, records) {
+        Ok(()) => Ok(Ok(writer.flush())),
+        Err(WriteError::EqualKeys { first, second }) => {
+            let key = String::from_str(alloc, text_in_first_row(records, first))?;
+            Ok(Err(EqualKeys { key, first, second }))
+        }
+        // Rows of a table are equally long.
+        Err(WriteError::LongRow { .. }) => unreachable!(),
+        Err(WriteError::OutOfMemory) => Err(AllocError),
+        Err(WriteError::Failed(error)) => Ok(Ok(Err(error))),
+    }
+}
+
+/// The text of a column in the first row.
+fn text_in_first_row<'r>(records: &'r [Vec<LentText>], column: usize) -> &'r str {
+    let Some(row) = records.first() else {
+        return "";
+    };
+    match row.get(column) {
+        Some(text) => text.text(),
+        None => "",
+    }
+}
+
+/// The rows that bytes mean as JSON.
+pub(crate) fn json_rows<'a>(
+    alloc: Global,
+    bytes: &'a [u8],
+    spare: &mut Spare<'a>,
+) -> Result<Vec<Vec<LentText<'a>>>, RowsError>
+    ensures { MatchResult result (λ rows. MeansTable bytes.now (texts_in_records rows.items)) (NoRowsIn Json bytes.now) }
+{
+    match read_table_with(alloc, bytes, spare) {
+        Ok(rows) => match lent_rows(alloc, rows) {
+            Ok(rows) => Ok(rows),
+            Err(_) => Err(RowsError::OutOfMemory),
+        },
+        Err(
+            ReadError::Faulty {
+                line,
+                column,
+                fault,
+            },
+        ) => Err(RowsError::Faulty {
+            line,
+            fault: SourceFault::Json { column, fault },
+        }),
+        Err(ReadError::OutOfMemory) => Err(RowsError::OutOfMemory),
+    }
+}
