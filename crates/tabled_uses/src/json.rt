@@ -35,13 +35,20 @@ fn texts(alloc: Global, row: &[&str]) -> Result<Vec<String>, AllocError> {
         .try_collect(alloc)
 }
 
-/// How many rows the tables of two texts have, which are read into one room.
-pub fn count_rows(alloc: Global, first: &[u8], second: &[u8]) -> Result<usize, ReadError> {
-    let mut room = Room::new(alloc)?;
-    let mut spare = Spare::new(&mut room);
+/// Rows of texts that are lent.
+type Rows<'a> = Vec<Vec<&'a str>>;
+
+/// The tables of two texts, which are read into one room.
+pub fn read_both<'a>(
+    alloc: Global,
+    first: &'a [u8],
+    second: &'a [u8],
+    room: &'a mut Room,
+) -> Result<(Rows<'a>, Rows<'a>), ReadError> {
+    let mut spare = Spare::new(room);
     let rows = read_table_with(alloc, first, &mut spare)?;
     let others = read_table_with(alloc, second, &mut spare)?;
-    Ok(rows.len().saturating_add(others.len()))
+    Ok((rows, others))
 }
 
 /// How many keys records have: that of the members, and that of the columns of their table.

@@ -90,7 +90,7 @@ fn rows_of_files_stand_one_behind_another(rt: HostRuntime) -> Result<(), Fail> {
             "",
             2,
             "",
-            "tabled_script: b.json: its first row is not that of the files before it\n  'm' in place of 'n'\n",
+            "tabled_script: b.json: its first row is not that of a.json\n  'm' in place of 'n'\n",
         ),
         (
             "a=n\n|b.json=[{\"n\":1},\n{\"n\":2},]",
