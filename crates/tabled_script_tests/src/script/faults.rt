@@ -37,7 +37,11 @@ fn each_verb_is_read_and_each_fault_is_named(rt: HostRuntime) -> Result<(), Fail
         ("split\tcolumn\t2\tzip\tretain\nextract\t0\t1\t2\t3\n", 0, 0),
         ("remove\trows\t0\t1\nremove\tnamed\ta\n", 0, 0),
         ("keep\trows\t0\t-20:\tn>1\nkeep\tcolumns\tn\t3:\t=3\n", 0, 0),
-        ("sort\trows\t1\tn\tnumber\nsort\trows\t0\t2\ttext\tdown\n", 0, 0),
+        (
+            "sort\trows\t1\tn\tnumber\nsort\trows\t0\t2\ttext\tdown\n",
+            0,
+            0,
+        ),
         ("concat\tvertical\t-\t1\t2\ta\tb\n", 0, 0),
         ("shape\t1\t2\nrow\ta\tb\nspan\t0\t0\t1\t2\n", 0, 0),
         ("row\ta\tb\nspan\t0\t1\t1\t2\n", 2, 7),
