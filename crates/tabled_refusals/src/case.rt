@@ -161,7 +161,12 @@ fn steps(alloc: Global, words: &str) -> Option<Vec<Step>> {
 /// Whether a step that is refused leaves the first of its writes. Others leave the table as it was.
 fn is_writer(step: &Step) -> bool {
     match step {
-        Step::Set(_, _) | Step::Dup(_, _) | Step::Charset(_, _) | Step::Wrap(_, _) => true,
+        Step::Set(_, _)
+        | Step::Dup(_, _)
+        | Step::Charset(_, _)
+        | Step::Wrap(_, _)
+        | Step::Truncate(_, _)
+        | Step::Replace(_, _, _) => true,
         Step::ColumnSpan(size, _) | Step::RowSpan(size, _) => *size <= 0,
         _ => false,
     }
