@@ -92,23 +92,40 @@ def columns_in(text):
     return sum(map(columns_of, text))
 
 
+def pieces_of(line):
+    """The pieces of a line: each character that takes no columns stays with the one before it."""
+    found = []
+    for it in line:
+        if found and columns_of(it) == 0:
+            found[-1] += it
+        else:
+            found.append(it)
+    return found
+
+
 def broken(n, word):
-    """A word cut where a character has no room left, and the columns that its last line then has."""
-    cut, used = "", 0
+    """A word's pieces, each that doesn't fit in a line of its own, and the columns that the last line then has."""
+    cut, used = "", None
     for it in word:
-        fits = used + columns_of(it) <= n
+        fits = used is None or used + columns_in(it) <= n
         cut += it if fits else "\n" + it
-        used = (used if fits else 0) + columns_of(it)
-    return cut, used
+        used = (used or 0 if fits else 0) + columns_in(it)
+    return cut, used or 0
 
 
 def wrapped_line(n, line):
     """A line cut between the words that its blanks part, and words cut that are wider than a line."""
-    first, *words = line.split(" ")
-    cut, used = broken(n, first)
-    for word in words:
-        if used + 1 + columns_in(word) <= n:
-            cut, used = cut + " " + word, used + 1 + columns_in(word)
+    words = [[]]
+    for it in pieces_of(line):
+        if it == " ":
+            words.append([])
+        else:
+            words[-1].append(it)
+    cut, used = broken(n, words[0])
+    for word in words[1:]:
+        wide = columns_in("".join(word))
+        if used + 1 + wide <= n:
+            cut, used = cut + " " + "".join(word), used + 1 + wide
         elif word:
             part, used = broken(n, word)
             cut += "\n" + part
@@ -116,9 +133,8 @@ def wrapped_line(n, line):
 
 
 def wrapped(n, text):
-    """A text of at most n columns, each character of more replaced."""
-    fitted = "".join(it if columns_of(it) <= n else "\N{REPLACEMENT CHARACTER}" for it in text)
-    return "\n".join(wrapped_line(n, it) for it in fitted.split("\n")) if n > 0 else ""
+    """A text whose lines have at most n columns, but for a piece of more."""
+    return "\n".join(wrapped_line(n, it) for it in text.split("\n")) if n > 0 else ""
 
 
 def truncated_line(n, line):

@@ -175,9 +175,12 @@ def index(crates):
                 continue
             out += ["", f"### `{module.path()}`", ""]
             for text, part in told:
-                if part.kind != "impl":
-                    link = f"../crates/{module.crate}/src/{paths[text]}#L{line_of(text, part.name)}"
-                    out += [f"{'  ' * (part.kind == 'call')}- [`{part.name}`]({link}): {first_sentence(part.words)}"]
+                link = f"../crates/{module.crate}/src/{paths[text]}#L{line_of(text, part.name)}"
+                _, _, own = part.name.rpartition("::")
+                if part.kind == "call" and own != part.name:
+                    out[-1] += f" [`{own}`]({link})"
+                elif part.kind != "impl":
+                    out += [f"- [`{part.name}`]({link}): {first_sentence(part.words)}"]
             if len(meant) == len(told):
                 out += [f"- `{of}`: a store, by " + ", ".join(f"`{it}`" for it in traits) for of, traits in meanings(meant)]
     return "\n".join(out) + "\n"
@@ -193,8 +196,9 @@ def meanings(names):
 
 
 BEGUN = """\
-Each name leads to its line of src, where its whole words and its contract stand. `docs/make --api FOLDER` writes a page
-for each module, with the paths to import. [README](../README.md) says what *refused* means."""
+Each name leads to its line of src, where its whole words and its contract stand; behind a type stand its calls.
+`docs/make --api FOLDER` writes a page for each module, with the paths to import. [README](../README.md) says what
+*refused* means."""
 
 SAID_ONCE = """\
 What is alike in all:

@@ -46,10 +46,9 @@ def made():
         return {"API.md": names(Path(folder), ["low", "high"]), **pages(Path(folder), ["low", "high"])}
 
 
-def lists_calls_below_their_type():
+def lists_calls_behind_their_type():
     return """\
-- [`Spans`](../crates/low/src/config/spans.rt#L4): Merged cells.
-  - [`Spans::fits`](../crates/low/src/config/fitting.rt#L7): Says whether all fit.
+- [`Spans`](../crates/low/src/config/spans.rt#L4): Merged cells. [`fits`](../crates/low/src/config/fitting.rt#L7)
 """ in made()["API.md"]
 
 
@@ -86,7 +85,7 @@ def lists_a_module_without_names_of_its_own():
 
 
 TESTS = [
-    lists_calls_below_their_type, tells_what_a_type_means_below_it, names_the_paths_that_code_imports,
+    lists_calls_behind_their_type, tells_what_a_type_means_below_it, names_the_paths_that_code_imports,
     names_the_paths_that_contracts_import, lists_what_is_offered_again_where_it_is_used,
     lists_a_module_without_names_of_its_own,
 ]
