@@ -7,7 +7,7 @@ them as ours does, and the comparison goes on after them. Else what differs is s
 
 import unicodedata
 
-from added import SAID, is_too_deep
+from added import SAID, TOO_DEEP, is_too_deep
 from carried import spans_after
 from printed import ORDER
 
@@ -164,6 +164,9 @@ def step_departures(before, line, ours, run):
         theirs = run(line)
         if theirs == ours:
             return names, line, True
+        # What stands for a step may be a selector deeper than it, and so too deep.
+        if names and theirs[0] == 2 and theirs[1].endswith(TOO_DEEP):
+            return [*names, is_too_deep.__name__], line, False
         words = line.split(b"\t")
         for name, other in other_lines(before, words, ours, theirs, run):
             if other is not None and name not in names:
