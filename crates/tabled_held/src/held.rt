@@ -1,8 +1,9 @@
 //! Bytes that are held until there are many to send.
 
-ghost use Rattle.std.specs.Prelude.{◌≡◌, ◌∷◌, [], IfOk, MatchResult, None, Some, replicate};
+ghost use Rattle.std.specs.Prelude.{◌≡◌, ◌∷◌, [], IfOk, MatchResult, None, Some, decimal, replicate};
 ghost use Rattle.tabled_held.specs.Sent.{GrowsBy};
 
+use crate::digits::{DIGITS, push_reserved_digits};
 use crate::sending::write_all;
 use std::alloc::{AllocError, Global};
 use std::io::{self, Write};
@@ -86,6 +87,30 @@ impl Held {
         }
         // There is room, so this asks for no memory.
         let _ = self.bytes.extend_from_slice(bytes);
+    }
+
+    /// Holds a number's digits, or sends some of them.
+    pub(crate) fn write_number<W: Write>(&mut self, writer: &mut W, number: usize)
+        ensures { GrowsBy (W.contents writer.old) self.old (W.contents writer.new) self.new (decimal number) }
+    {
+        if self.bytes.capacity() - self.bytes.len() < DIGITS {
+            self.push_digits(writer, number);
+            return;
+        }
+        // Room is asked for once.
+        push_reserved_digits(&mut self.bytes, number);
+    }
+
+    /// Holds a number's digits, or sends them, one after another.
+    fn push_digits<W: Write>(&mut self, writer: &mut W, number: usize)
+        ensures { GrowsBy (W.contents writer.old) self.old (W.contents writer.new) self.new (decimal number) }
+    {
+        if number < 10 {
+            self.push(writer, b'0' + number as u8);
+            return;
+        }
+        self.push_digits(writer, number / 10);
+        self.push(writer, b'0' + (number % 10) as u8);
     }
 
     /// Holds a byte and bytes behind it, or sends them after what is held, if there is no room.

@@ -2,6 +2,7 @@
 #![tactic(auto)]
 
 mod characters;
+mod digits;
 mod held;
 mod pen;
 mod run;

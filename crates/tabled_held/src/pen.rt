@@ -1,6 +1,6 @@
 //! A pen: a writer, and what is held for it.
 
-ghost use Rattle.std.specs.Prelude.{◌≡◌, ◌∷◌, [], is_some, replicate};
+ghost use Rattle.std.specs.Prelude.{◌≡◌, ◌∷◌, [], decimal, is_some, replicate};
 
 use crate::held::Held;
 use std::io::{self, Write};
@@ -67,6 +67,15 @@ impl<'w, W: Write> Pen<'w, W> {
         ensures { Sends W.contents self.old self.new (byte ∷ bytes.now) }
     {
         self.held.write_behind(self.writer, byte, bytes);
+    }
+
+    /// Sends a number's digits.
+    ///
+    /// Of this project.
+    pub fn send_number(&mut self, number: usize)
+        ensures { Sends W.contents self.old self.new (decimal number) }
+    {
+        self.held.write_number(self.writer, number);
     }
 
     /// Sends a byte many times.

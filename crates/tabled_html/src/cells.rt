@@ -1,7 +1,7 @@
 //! Cells of HTML, written.
 
 ghost use Rattle.std.specs.List.{flat_map};
-ghost use Rattle.std.specs.Prelude.{[], ◌∷◌, ◌≡◌, IsTrue, Some, decimal};
+ghost use Rattle.std.specs.Prelude.{[], ◌∷◌, ◌≡◌, IsTrue, Some};
 ghost use Rattle.tabled_held.specs.Pens.{Sends};
 ghost use Rattle.tabled_html.specs.Elements.{cell_attributes, element, scope_attribute, span_attribute, style_attribute};
 ghost use Rattle.tabled_html_reading.specs.Bytes.{attribute_bytes, attributes_bytes, cell_bytes, cell_end, cell_start};
@@ -49,18 +49,6 @@ pub(crate) fn write_text<W: Write>(pen: &mut Pen<'_, W>, text: &[u8])
     pen.send(&text[written..]);
 }
 
-/// Writes a number's digits.
-fn write_number<W: Write>(pen: &mut Pen<'_, W>, number: usize)
-    ensures { Sends W.contents pen.old pen.new (decimal number) }
-{
-    if number < 10 {
-        pen.send_byte(b'0' + number as u8);
-        return;
-    }
-    write_number(pen, number / 10);
-    pen.send_byte(b'0' + (number % 10) as u8);
-}
-
 /// Writes an attribute with a number above 1, of which 1 needs none.
 fn write_span<W: Write>(pen: &mut Pen<'_, W>, name: &[u8], number: usize)
     ensures { Sends W.contents pen.old pen.new (flat_map attribute_bytes (span_attribute name.now number)) }
@@ -69,7 +57,7 @@ fn write_span<W: Write>(pen: &mut Pen<'_, W>, name: &[u8], number: usize)
         pen.send_byte(b' ');
         pen.send(name);
         pen.send(b"=\"");
-        write_number(pen, number);
+        pen.send_number(number);
         pen.send_byte(b'"');
     }
 }

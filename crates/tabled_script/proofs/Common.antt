@@ -1,6 +1,6 @@
 -- The names that most proofs cite, passed on from one place. Declares nothing.
 pub use Rattle.std.proofs.Common.{slice_index_or}
-pub use Rattle.std.proofs.lemmas.Fmt.{decimal_digit, decimal_step, digits_decimal, length-decimal-le}
+pub use Rattle.std.proofs.lemmas.Fmt.{digits_decimal}
 pub use Rattle.std.proofs.lemmas.List.Concat.{flat_map-append}
 pub use Rattle.std.proofs.lemmas.Option.{IfSome_then}
 pub use Rattle.std.specs.Io.KnownBytes.{Appends}

@@ -19,21 +19,9 @@ pub(crate) fn write_numbers<W: Write>(pen: &mut Pen<'_, W>, name: &str, numbers:
     pen.send(name.as_bytes());
     for number in numbers {
         pen.send_byte(b'\t');
-        write_number(pen, *number);
+        pen.send_number(*number);
     }
     pen.send_byte(b'\n');
-}
-
-/// Writes a number's digits.
-fn write_number<W: Write>(pen: &mut Pen<'_, W>, number: usize)
-    ensures { Sends W.contents pen.old pen.new (decimal number) }
-{
-    if number < 10 {
-        pen.send_byte(b'0' + number as u8);
-        return;
-    }
-    write_number(pen, number / 10);
-    pen.send_byte(b'0' + (number % 10) as u8);
 }
 
 /// Writes a tab, and the word that stands for a text.

@@ -7,5 +7,5 @@ use Rattle.tabled_html.proofs.cells.write_span.Goals as goal
 
 pub returns-then-number-gt1 : goal.returns-then-number-gt1
 returns-then-number-gt1 g c =
-    let bytes = sends-then (sends-then (sends-then (sends-then c.send_byte.ensures c.send.ensures) c.send-then-number-gt1.ensures) c.write_number.ensures) c.send_byte-then-number-gt1.ensures in
+    let bytes = sends-then (sends-then (sends-then (sends-then c.send_byte.ensures c.send.ensures) c.send-then-number-gt1.ensures) c.send_number.ensures) c.send_byte-then-number-gt1.ensures in
     rw (lt-ltb 1 c.args.number c.if-number-gt1.true) (sends-as (five-parts (32 ∷ []) c.args.name.now (codes "=\"") (decimal c.args.number) (34 ∷ []) ∙ sym (append-nil _)) bytes)

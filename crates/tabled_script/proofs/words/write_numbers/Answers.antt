@@ -15,7 +15,7 @@ loop-number-preserved g c =
     let word = λ (m : ℕ). 9 ∷ escaped (decimal m) in
     let before = c.args.name.now ++ flat_map word (take i numbers) in
     sends-as (ap (λ ds. before ++ 9 ∷ ds) (sym (escaped-decimal n fits)) ∙ pushed_more word c.args.name.now before numbers i n c.loop-number-test.true (get_or_default numbers i _ n c.loop-number-test.true) refl)
-    (sends-then c.loop-number.invariant (sends-then c.send_byte.ensures c.write_number.ensures))
+    (sends-then c.loop-number.invariant (sends-then c.send_byte.ensures c.send_number.ensures))
 
 pub returns : goal.returns
 returns g c =

@@ -1,9 +1,0 @@
-use Rattle.tabled_held.proofs.Pens.{sends-as, sends-then}
-use Rattle.tabled_script.proofs.Common.{[], ◌%◌, ◌+◌, ◌∷◌, arith, decimal_digit, decimal_step, sym}
-use Rattle.tabled_script.proofs.words.+write_number.Goals as goal
-
-pub returns-then-number-lt10 : goal.returns-then-number-lt10
-returns-then-number-lt10 t g c = sends-as (sym (decimal_digit c.args.number c.if-number-lt10.true)) c.send_byte.ensures
-
-pub returns : goal.returns
-returns t g c = sends-as (sym (decimal_step c.args.number c.if-number-lt10.false (omega (arith, c.ranges.number.fits)))) (sends-then c.write_number.ensures c.send_byte-2.ensures)
