@@ -1,7 +1,7 @@
 -- UTF-8 before and behind a byte of ASCII.
 use Rattle.std.proofs.Math.Seq.{drop-append-add, get_or-append_seam, take-append_seam}
 use Rattle.std.proofs.lemmas.Str.{IsCharBoundary-after_ascii, IsCharBoundary-before_ascii, IsUtf8-drop, IsUtf8-take}
-use Rattle.tabled_csv.proofs.Common.{[], ◌+◌, ◌++◌, ◌<◌, ◌∙◌, ◌∷◌, ◌≡◌, IsSeparator, IsUtf8, List, ap, IsUtf8-nil, append-nil, arith, doubled, drop, get_or, inl, inr, length, length-append, subst, sym, take, ℕ}
+use Rattle.tabled_csv.proofs.Common.{Dialect, [], ◌+◌, ◌++◌, ◌<◌, ◌∙◌, ◌∷◌, ◌≡◌, IsSeparator, IsUtf8, List, ap, IsUtf8-nil, append-nil, arith, doubled, drop, get_or, inl, inr, length, length-append, subst, sym, take, ℕ}
 use Rattle.tabled_csv.specs.Fields.{BlankAt, ClosedBy, FormAt, PlainAt, Stops}
 use Rattle.tabled_csv.specs.Reading.{RecordAt}
 use Rattle.tabled_csv.specs.declared.quoted.Closing.{Closing}
@@ -34,14 +34,14 @@ utf8-stops s sep before field tail End after h valid =
     let both : IsUtf8 (before ++ []) = subst (λ (l : List ℕ). IsUtf8 (before ++ l)) h.0 valid in
     (subst IsUtf8 (append-nil before) both, rw h.1 (IsUtf8-nil))
 
-module _ (s : ℕ) (sep : IsSeparator s) where
-  pub plain-utf8 : (bytes text : List ℕ) (stop : Stop) (after : List ℕ) → PlainAt s bytes text stop after → IsUtf8 bytes → IsUtf8 text
-  plain-utf8 bytes text stop after p valid = (utf8-stops s sep text text p.tail stop after p.stops (subst IsUtf8 p.parts valid)).0
+module _ (d : Dialect) (sep : IsSeparator d.separator) where
+  pub plain-utf8 : (bytes text : List ℕ) (stop : Stop) (after : List ℕ) → PlainAt d bytes text stop after → IsUtf8 bytes → IsUtf8 text
+  plain-utf8 bytes text stop after p valid = (utf8-stops d.separator sep text text p.tail stop after p.stops (subst IsUtf8 p.parts valid)).0
 
-  pub after-field : (bytes text : List ℕ) (stop : Stop) (after : List ℕ) → FormAt s bytes text stop after → IsUtf8 bytes → IsUtf8 after
-  after-field bytes text stop after f valid = (utf8-stops s sep f.field f.field f.tail stop after f.stops (subst IsUtf8 f.parts valid)).1
+  pub after-field : (bytes text : List ℕ) (stop : Stop) (after : List ℕ) → FormAt d bytes text stop after → IsUtf8 bytes → IsUtf8 after
+  after-field bytes text stop after f valid = (utf8-stops d.separator sep f.field f.field f.tail stop after f.stops (subst IsUtf8 f.parts valid)).1
 
-  pub after-record : (bytes : List ℕ) (row : List (List ℕ)) (after : List ℕ) → RecordAt s bytes row after → IsUtf8 bytes → IsUtf8 after
+  pub after-record : (bytes : List ℕ) (row : List (List ℕ)) (after : List ℕ) → RecordAt d bytes row after → IsUtf8 bytes → IsUtf8 after
   after-record bytes [] after r valid = absurd r
   after-record bytes (text ∷ []) after (inl f) valid = after-field bytes text Line after f.at valid
   after-record bytes (text ∷ []) after (inr f) valid = after-field bytes text End after f.at valid

@@ -1,7 +1,7 @@
 -- A field at the front of bytes, and what is behind it.
 use Rattle.std.specs.Prelude.{true, ◌≡◌, ◌<◌, ◌+◌, ℕ, List, [], ◌∷◌, ◌++◌, ◌⊎◌, length, take, drop, IsUtf8, false, slice_index}
 use Rattle.std.specs.List.{list_any}
-use Rattle.tabled_csv.specs.Grammar.{IsForm, IsPlain, IsLineEnd, begins_with, doubled, ends_with, is_outside}
+use Rattle.tabled_csv.specs.Grammar.{Dialect, IsForm, IsPlain, IsLineEnd, begins_with, doubled, ends_with, is_outside}
 use Rattle.tabled_csv.specs.declared.quoted.Closing.{Closing}
 use Rattle.tabled_csv.specs.declared.stop.Stop.{Stop}
 use Rattle.tabled_csv.specs.declared.stop.Stop.TheVariants.{Separator, Line, End}
@@ -13,21 +13,21 @@ Stops separator field tail Line after = (end : List ℕ) × IsLineEnd field end 
 Stops separator field tail End after = (tail ≡ []) × (after ≡ [])
 
 -- bytes begin with a field that stands for a text, be it UTF-8 or not
-pub record FormAt (separator : ℕ) (bytes text : List ℕ) (stop : Stop) (after : List ℕ) : Type 0 where
+pub record FormAt (dialect : Dialect) (bytes text : List ℕ) (stop : Stop) (after : List ℕ) : Type 0 where
   pub field : List ℕ
   pub tail : List ℕ
   pub parts : bytes ≡ field ++ tail
-  pub form : IsForm separator field text
-  pub stops : Stops separator field tail stop after
+  pub form : IsForm dialect field text
+  pub stops : Stops dialect.separator field tail stop after
 
 -- bytes begin with a field
-pub record FieldAt (separator : ℕ) (bytes text : List ℕ) (stop : Stop) (after : List ℕ) : Type 0 where
+pub record FieldAt (dialect : Dialect) (bytes text : List ℕ) (stop : Stop) (after : List ℕ) : Type 0 where
   pub utf8 : IsUtf8 text
-  pub at : FormAt separator bytes text stop after
+  pub at : FormAt dialect bytes text stop after
 
 -- bytes begin with no field
-abbrev pub NoFieldAt : ℕ → List ℕ → Type 0
-NoFieldAt separator bytes = (text : List ℕ) (stop : Stop) (after : List ℕ) → FieldAt separator bytes text stop after → ⊥
+abbrev pub NoFieldAt : Dialect → List ℕ → Type 0
+NoFieldAt dialect bytes = (text : List ℕ) (stop : Stop) (after : List ℕ) → FieldAt dialect bytes text stop after → ⊥
 
 -- bytes begin with the end of a line
 abbrev pub BlankAt : List ℕ → List ℕ → Type 0
@@ -44,11 +44,11 @@ pub record IsFirstOutside (separator : ℕ) (bytes : List ℕ) (place : ℕ) : T
   pub outside : is_outside separator (slice_index bytes place) ≡ true
 
 -- bytes begin with a plain field
-pub record PlainAt (separator : ℕ) (bytes text : List ℕ) (stop : Stop) (after : List ℕ) : Type 0 where
+pub record PlainAt (dialect : Dialect) (bytes text : List ℕ) (stop : Stop) (after : List ℕ) : Type 0 where
   pub tail : List ℕ
   pub parts : bytes ≡ text ++ tail
-  pub plain : IsPlain separator text
-  pub stops : Stops separator text tail stop after
+  pub plain : IsPlain dialect text
+  pub stops : Stops dialect.separator text tail stop after
 
 -- what is behind a closing quote
 abbrev pub StopsQuoted : ℕ → List ℕ → Stop → List ℕ → Type 0

@@ -1,5 +1,5 @@
 -- What CSV means: bytes that are rows of texts.
-use Rattle.std.specs.Prelude.{◌≡◌, ◌≢◌, ◌<◌, ◌⊎◌, ◌==◌, ◌&&◌, ◌||◌, ℕ, Bool, false, List, [], ◌∷◌, ◌++◌, drop, if◌then◌else◌, IsUtf8}
+use Rattle.std.specs.Prelude.{true, ◌≡◌, ◌≢◌, ◌<◌, ◌⊎◌, ◌==◌, ◌&&◌, ◌||◌, ℕ, Bool, false, List, [], ◌∷◌, ◌++◌, drop, if◌then◌else◌, IsUtf8}
 use Rattle.std.specs.List.{list_any}
 
 -- what may part fields: a byte of ASCII that is no quote and has no part in the end of a line
@@ -8,6 +8,15 @@ pub record IsSeparator (separator : ℕ) : Type 0 where
   pub no_quote : separator ≢ 34
   pub no_line_feed : separator ≢ 10
   pub no_carriage_return : separator ≢ 13
+
+-- how records stand in bytes: what parts their fields, and whether a field may stand between quotes
+pub record Dialect : Type 0 where
+  pub separator : ℕ
+  pub quoting : Bool
+
+-- the dialect of a separator, in which fields may stand between quotes
+abbrev pub with_quotes : ℕ → Dialect
+with_quotes separator = record { separator = separator; quoting = true }
 
 -- bytes begin with a byte
 abbrev pub begins_with : ℕ → List ℕ → Bool
@@ -24,10 +33,14 @@ ends_with b (c ∷ d ∷ bytes) = ends_with b (d ∷ bytes)
 abbrev pub is_outside : ℕ → ℕ → Bool
 is_outside separator b = (b == separator) || (b == 10)
 
--- bytes that stand for themselves: they hold no separator and no line feed, and don't begin with a quote
-pub record IsPlain (separator : ℕ) (bytes : List ℕ) : Type 0 where
-  pub within : list_any (is_outside separator) bytes ≡ false
-  pub unquoted : begins_with 34 bytes ≡ false
+-- bytes begin with a quote that opens a field
+abbrev pub opens : Dialect → List ℕ → Bool
+opens dialect bytes = begins_with 34 bytes && dialect.quoting
+
+-- bytes that stand for themselves: they hold no separator and no line feed, and begin with no quote that opens a field
+pub record IsPlain (dialect : Dialect) (bytes : List ℕ) : Type 0 where
+  pub within : list_any (is_outside dialect.separator) bytes ≡ false
+  pub unquoted : opens dialect bytes ≡ false
 
 -- bytes in which each quote is doubled
 abbrev pub doubled : List ℕ → List ℕ
@@ -38,37 +51,37 @@ doubled (b ∷ bytes) = if b == 34 then 34 ∷ 34 ∷ doubled bytes else b ∷ d
 abbrev pub quoted : List ℕ → List ℕ
 quoted text = 34 ∷ (doubled text ++ (34 ∷ []))
 
--- a field: a text that stands for itself, or one between quotes
-abbrev pub IsForm : ℕ → List ℕ → List ℕ → Type 0
-IsForm separator bytes text = (IsPlain separator bytes × (bytes ≡ text)) ⊎ (bytes ≡ quoted text)
+-- a field: a text that stands for itself or, in a dialect that quotes, one between quotes
+abbrev pub IsForm : Dialect → List ℕ → List ℕ → Type 0
+IsForm dialect bytes text = (IsPlain dialect bytes × (bytes ≡ text)) ⊎ ((bytes ≡ quoted text) × (dialect.quoting ≡ true))
 
 -- a field of a text: UTF-8, and one of its forms
-pub record IsField (separator : ℕ) (bytes text : List ℕ) : Type 0 where
+pub record IsField (dialect : Dialect) (bytes text : List ℕ) : Type 0 where
   pub utf8 : IsUtf8 text
-  pub form : IsForm separator bytes text
+  pub form : IsForm dialect bytes text
 
 -- the fields of a record, parted by separators
-abbrev pub IsRecord : ℕ → List ℕ → List (List ℕ) → Type 0
-IsRecord separator bytes [] = ⊥
-IsRecord separator bytes (text ∷ []) = IsField separator bytes text
-IsRecord separator bytes (text ∷ next ∷ texts) =
-    (field : List ℕ) × (rest : List ℕ) × (bytes ≡ field ++ (separator ∷ rest)) × IsField separator field text × IsRecord separator rest (next ∷ texts)
+abbrev pub IsRecord : Dialect → List ℕ → List (List ℕ) → Type 0
+IsRecord dialect bytes [] = ⊥
+IsRecord dialect bytes (text ∷ []) = IsField dialect bytes text
+IsRecord dialect bytes (text ∷ next ∷ texts) =
+    (field : List ℕ) × (rest : List ℕ) × (bytes ≡ field ++ (dialect.separator ∷ rest)) × IsField dialect field text × IsRecord dialect rest (next ∷ texts)
 
 -- the rows of a line: none where it is blank, and else its record
-abbrev pub IsLine : ℕ → List ℕ → List (List (List ℕ)) → Type 0
-IsLine separator [] rows = rows ≡ []
-IsLine separator (b ∷ bytes) rows = (row : List (List ℕ)) × (rows ≡ row ∷ []) × IsRecord separator (b ∷ bytes) row
+abbrev pub IsLine : Dialect → List ℕ → List (List (List ℕ)) → Type 0
+IsLine dialect [] rows = rows ≡ []
+IsLine dialect (b ∷ bytes) rows = (row : List (List ℕ)) × (rows ≡ row ∷ []) × IsRecord dialect (b ∷ bytes) row
 
 -- the end of a line: a carriage return and a line feed, or a line feed that is behind no carriage return
 abbrev pub IsLineEnd : List ℕ → List ℕ → Type 0
 IsLineEnd line end = (end ≡ 13 ∷ 10 ∷ []) ⊎ ((end ≡ 10 ∷ []) × (ends_with 13 line ≡ false))
 
 -- lines with their ends, of which the last may have none, and their rows
-pub data IsLines : ℕ → List ℕ → List (List (List ℕ)) → Type 0 where
-  last : {separator : ℕ} {bytes : List ℕ} {rows : List (List (List ℕ))} → IsLine separator bytes rows → IsLines separator bytes rows
-  line : {separator : ℕ} {bytes : List ℕ} {rows : List (List (List ℕ))} (line end rest : List ℕ) (here more : List (List (List ℕ)))
+pub data IsLines : Dialect → List ℕ → List (List (List ℕ)) → Type 0 where
+  last : {dialect : Dialect} {bytes : List ℕ} {rows : List (List (List ℕ))} → IsLine dialect bytes rows → IsLines dialect bytes rows
+  line : {dialect : Dialect} {bytes : List ℕ} {rows : List (List (List ℕ))} (line end rest : List ℕ) (here more : List (List (List ℕ)))
       → bytes ≡ line ++ (end ++ rest) → rows ≡ here ++ more
-      → IsLine separator line here → IsLineEnd line end → IsLines separator rest more → IsLines separator bytes rows
+      → IsLine dialect line here → IsLineEnd line end → IsLines dialect rest more → IsLines dialect bytes rows
 
 -- U+FEFF in UTF-8, the byte order mark
 abbrev pub begins_with_mark : List ℕ → Bool
@@ -82,5 +95,5 @@ abbrev pub behind_mark : List ℕ → List ℕ
 behind_mark bytes = if begins_with_mark bytes then drop 3 bytes else bytes
 
 -- bytes are rows of texts
-abbrev pub IsCsv : ℕ → List ℕ → List (List (List ℕ)) → Type 0
-IsCsv separator bytes rows = IsLines separator (behind_mark bytes) rows
+abbrev pub IsCsv : Dialect → List ℕ → List (List (List ℕ)) → Type 0
+IsCsv dialect bytes rows = IsLines dialect (behind_mark bytes) rows

@@ -1,6 +1,6 @@
 -- What is read from the front of bytes.
 use Rattle.std.specs.Prelude.{◌≡◌, ◌⊎◌, ℕ, List, [], ◌∷◌, ◌++◌}
-use Rattle.tabled_csv.specs.Grammar.{IsCsv, IsLines}
+use Rattle.tabled_csv.specs.Grammar.{Dialect, IsCsv, IsLines}
 use Rattle.tabled_csv.specs.Faults.{AreParted, FaultAt, FaultIn}
 use Rattle.tabled_csv.specs.Fields.{FieldAt}
 use Rattle.tabled_csv.specs.declared.fault.Fault.{Fault}
@@ -21,33 +21,33 @@ AtFault P (error.Faulty line fault) = P line fault
 AtFault P error.OutOfMemory = Unit {0}
 
 -- bytes begin with a record and the end of its line
-abbrev pub RecordAt : ℕ → List ℕ → List (List ℕ) → List ℕ → Type 0
-RecordAt separator bytes [] after = ⊥
-RecordAt separator bytes (text ∷ []) after = FieldAt separator bytes text Line after ⊎ FieldAt separator bytes text End after
-RecordAt separator bytes (text ∷ next ∷ texts) after = (rest : List ℕ) × FieldAt separator bytes text Separator rest × RecordAt separator rest (next ∷ texts) after
+abbrev pub RecordAt : Dialect → List ℕ → List (List ℕ) → List ℕ → Type 0
+RecordAt dialect bytes [] after = ⊥
+RecordAt dialect bytes (text ∷ []) after = FieldAt dialect bytes text Line after ⊎ FieldAt dialect bytes text End after
+RecordAt dialect bytes (text ∷ next ∷ texts) after = (rest : List ℕ) × FieldAt dialect bytes text Separator rest × RecordAt dialect rest (next ∷ texts) after
 
 -- bytes begin with no record
-abbrev pub NoRecordAt : ℕ → List ℕ → Type 0
-NoRecordAt separator bytes = (row : List (List ℕ)) (after : List ℕ) → RecordAt separator bytes row after → ⊥
+abbrev pub NoRecordAt : Dialect → List ℕ → Type 0
+NoRecordAt dialect bytes = (row : List (List ℕ)) (after : List ℕ) → RecordAt dialect bytes row after → ⊥
 
 -- bytes begin with no record, and why
-pub record RecordFault (separator : ℕ) (bytes : List ℕ) (fault : Fault) (left : ℕ) : Type 0 where
-  pub none : NoRecordAt separator bytes
+pub record RecordFault (dialect : Dialect) (bytes : List ℕ) (fault : Fault) (left : ℕ) : Type 0 where
+  pub none : NoRecordAt dialect bytes
   pub front : List ℕ
   pub rest : List ℕ
   pub parts : bytes ≡ front ++ rest
-  pub fields : AreParted separator front
-  pub is : FaultAt separator rest fault left
+  pub fields : AreParted dialect front
+  pub is : FaultAt dialect rest fault left
 
 -- bytes are no lines of records
-abbrev pub NoLines : ℕ → List ℕ → Type 0
-NoLines separator bytes = (rows : List (List (List ℕ))) → IsLines separator bytes rows → ⊥
+abbrev pub NoLines : Dialect → List ℕ → Type 0
+NoLines dialect bytes = (rows : List (List (List ℕ))) → IsLines dialect bytes rows → ⊥
 
 -- bytes are no lines, and why
-pub record LinesFault (separator : ℕ) (bytes : List ℕ) (fault : Fault) (left : ℕ) : Type 0 where
-  pub none : NoLines separator bytes
-  pub is : FaultIn separator bytes fault left
+pub record LinesFault (dialect : Dialect) (bytes : List ℕ) (fault : Fault) (left : ℕ) : Type 0 where
+  pub none : NoLines dialect bytes
+  pub is : FaultIn dialect bytes fault left
 
 -- bytes mean no rows
-abbrev pub NoRows : ℕ → List ℕ → Type 0
-NoRows separator bytes = (rows : List (List (List ℕ))) → IsCsv separator bytes rows → ⊥
+abbrev pub NoRows : Dialect → List ℕ → Type 0
+NoRows dialect bytes = (rows : List (List (List ℕ))) → IsCsv dialect bytes rows → ⊥

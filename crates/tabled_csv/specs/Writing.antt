@@ -4,7 +4,7 @@ use Rattle.std.specs.List.{AllByRecursion, list_any}
 use Rattle.std.specs.IoError.{error_kind}
 use Rattle.std.specs.declared.io.Error.{Error}
 use Rattle.std.specs.declared.io.ErrorKind.TheVariants as ErrorKind
-use Rattle.tabled_csv.specs.Grammar.{IsCsv, begins_with_mark, quoted}
+use Rattle.tabled_csv.specs.Grammar.{IsCsv, begins_with_mark, quoted, with_quotes}
 use Rattle.tabled_csv.specs.declared.fault.WriteError.{WriteError}
 use Rattle.tabled_csv.specs.declared.fault.WriteError.TheVariants.{Failed, OutOfMemory}
 
@@ -52,7 +52,7 @@ csv_of separator rows = lines_of separator true rows
 
 -- what is written of rows means these rows
 abbrev pub WrittenMeans : ℕ → List (List (List ℕ)) → Type 0
-WrittenMeans separator rows = IsCsv separator (csv_of separator rows) rows
+WrittenMeans separator rows = IsCsv (with_quotes separator) (csv_of separator rows) rows
 
 -- each is UTF-8
 abbrev pub AreTexts : List (List ℕ) → Type 0
@@ -69,7 +69,7 @@ AreRows rows = HaveFields rows × AllByRecursion AreTexts rows
 -- what is written of rows means these rows, and no others
 pub record IsReadBack (separator : ℕ) (rows : List (List (List ℕ))) : Type 0 where
   pub means : WrittenMeans separator rows
-  pub only : (others : List (List (List ℕ))) → IsCsv separator (csv_of separator rows) others → others ≡ rows
+  pub only : (others : List (List (List ℕ))) → IsCsv (with_quotes separator) (csv_of separator rows) others → others ≡ rows
 
 -- where the writer failed
 abbrev pub OnFailed : Result (Unit {0}) WriteError → Type 0 → Type 0

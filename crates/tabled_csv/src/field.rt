@@ -1,13 +1,14 @@
 //! Fields.
 
-ghost use Rattle.std.specs.Prelude.{◌≡◌, ◌-◌, ◌∷◌, false, IsTrue, IsUtf8, MatchResult, length};
+ghost use Rattle.std.specs.Prelude.{◌≡◌, ◌-◌, ◌∷◌, false, true, IsTrue, IsUtf8, MatchResult, length};
 ghost use Rattle.std.specs.Bool.{MatchBool};
 ghost use Rattle.std.specs.Str.Lossy.{utf8_valid_len};
-ghost use Rattle.tabled_csv.specs.Grammar.{IsSeparator, begins_with};
+ghost use Rattle.tabled_csv.specs.Grammar.{IsSeparator, opens};
 ghost use Rattle.tabled_csv.specs.Fields.{FieldAt, PlainAt};
 ghost use Rattle.tabled_csv.specs.Faults.{FaultAt};
 ghost use Rattle.tabled_csv.specs.Reading.{UnreadAt};
 
+use crate::dialect::Dialect;
 use crate::fault::{Fault, Unread};
 use crate::outside::first_outside;
 use crate::quoted::find_closing;
@@ -35,12 +36,14 @@ fn left_behind_text(bytes: &[u8]) -> usize
     }
 }
 
-/// The plain field at the front of bytes that don't begin with a quote, what is behind it, and the bytes after this.
+/// The plain field at the front of bytes that don't begin with a quote that opens one, what is behind it, and the bytes
+/// after this.
 #[inline(always)]
-fn plain_field(separator: u8, bytes: &[u8]) -> (&[u8], Stop, &[u8])
-    requires { begins_with 34 bytes.now ≡ false }
-    ensures { PlainAt separator bytes.now result.0.now result.1 result.2.now }
+fn plain_field(dialect: Dialect, bytes: &[u8]) -> (&[u8], Stop, &[u8])
+    requires { opens dialect bytes.now ≡ false }
+    ensures { PlainAt dialect bytes.now result.0.now result.1 result.2.now }
 {
+    let separator = dialect.separator();
     let Some(i) = first_outside(separator, bytes) else {
         return (bytes, Stop::End, &bytes[bytes.len()..]);
     };
@@ -53,19 +56,19 @@ fn plain_field(separator: u8, bytes: &[u8]) -> (&[u8], Stop, &[u8])
 /// The field at the front of bytes, what is behind it, and the bytes after this.
 #[inline(always)]
 pub(crate) fn read_field<'a>(
-    separator: u8,
+    dialect: Dialect,
     is_text: bool,
     bytes: &'a [u8],
     spare: &mut Spare<'a>,
 ) -> Result<(&'a str, Stop, &'a [u8]), Unread>
-    requires separator { IsSeparator separator }
+    requires separator { IsSeparator dialect.separator }
     requires text { IsTrue is_text → IsUtf8 bytes.now }
-    ensures { MatchResult result (λ read. FieldAt separator bytes.now read.0.now read.1 read.2.now) (UnreadAt (FaultAt separator bytes.now)) }
+    ensures { MatchResult result (λ read. FieldAt dialect bytes.now read.0.now read.1 read.2.now) (UnreadAt (FaultAt dialect bytes.now)) }
 {
-    if begins_with(b'"', bytes) {
-        return quoted_field(separator, is_text, bytes, &bytes[1..], spare);
+    if begins_with(b'"', bytes) && dialect.is_quoting() {
+        return quoted_field(dialect, is_text, bytes, &bytes[1..], spare);
     }
-    let (field, stop, after) = plain_field(separator, bytes);
+    let (field, stop, after) = plain_field(dialect, bytes);
     if !is_utf8(is_text, field) {
         return Err(Unread::Faulty(Fault::NotUtf8, left_behind_text(bytes)));
     }
@@ -76,22 +79,23 @@ pub(crate) fn read_field<'a>(
 /// opens it are the bytes `behind`.
 #[inline(never)]
 fn quoted_field<'a>(
-    separator: u8,
+    dialect: Dialect,
     is_text: bool,
     bytes: &'a [u8],
     behind: &'a [u8],
     spare: &mut Spare<'a>,
 ) -> Result<(&'a str, Stop, &'a [u8]), Unread>
-    requires separator { IsSeparator separator }
+    requires separator { IsSeparator dialect.separator }
     requires behind { bytes.now ≡ 34 ∷ behind.now }
+    requires quoting { dialect.quoting ≡ true }
     requires text { IsTrue is_text → IsUtf8 bytes.now }
-    ensures { MatchResult result (λ read. FieldAt separator bytes.now read.0.now read.1 read.2.now) (UnreadAt (FaultAt separator bytes.now)) }
+    ensures { MatchResult result (λ read. FieldAt dialect bytes.now read.0.now read.1 read.2.now) (UnreadAt (FaultAt dialect bytes.now)) }
 {
     let Some(closing) = find_closing(behind) else {
         return Err(Unread::Faulty(Fault::UnclosedQuote, bytes.len()));
     };
     let rest = &behind[closing.place + 1..];
-    let Some((stop, after)) = stop_at(separator, rest) else {
+    let Some((stop, after)) = stop_at(dialect, rest) else {
         return Err(Unread::Faulty(Fault::BehindQuote, rest.len()));
     };
     let inner = &behind[..closing.place];

@@ -1,6 +1,7 @@
 //! Tables of texts as CSV, read and written.
 #![tactic(auto)]
 
+mod dialect;
 mod fault;
 mod field;
 pub mod laws;
@@ -14,6 +15,7 @@ mod separator;
 mod stop;
 mod writing;
 
+pub use dialect::Dialect;
 pub use fault::{Fault, ReadError, WriteError};
 pub use reading::{read, read_with};
 pub use room::{Room, Spare};

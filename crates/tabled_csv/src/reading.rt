@@ -1,11 +1,12 @@
 //! CSV, read.
 
 ghost use Rattle.std.specs.Prelude.{◌≡◌, ◌≤◌, [], IfErr, IfOk, IsOk, IsTrue, IsUtf8, MatchResult, OnErr, length};
-ghost use Rattle.tabled_csv.specs.Grammar.{IsSeparator, IsCsv, IsLines, behind_mark};
+ghost use Rattle.tabled_csv.specs.Grammar.{IsSeparator, IsCsv, IsLines, behind_mark, with_quotes};
 ghost use Rattle.tabled_csv.specs.Reading.{AtFault, LinesFault, NoRows, RecordAt, RecordFault, UnreadAt};
 ghost use Rattle.tabled_csv.specs.Faults.{IsFault, line_at};
 ghost use Rattle.tabled_csv.specs.Texts.{KeepsTexts, rows_by, rows_of, texts_by};
 
+use crate::dialect::Dialect;
 use crate::fault::{ReadError, Unread};
 use crate::field::read_field;
 use crate::room::{Room, Spare};
@@ -18,7 +19,7 @@ use tabled_grid::records::CellText;
 /// The record at the front of bytes, and the bytes behind its line. There is room for some fields from the start.
 fn record<'a, T>(
     alloc: Global,
-    separator: u8,
+    dialect: Dialect,
     is_text: bool,
     room: usize,
     bytes: &'a [u8],
@@ -27,14 +28,14 @@ fn record<'a, T>(
 where
     T: From<&'a str> + CellText,
     requires keeps { KeepsTexts T.from_gives T.text_of }
-    requires separator { IsSeparator separator }
+    requires separator { IsSeparator dialect.separator }
     requires text { IsTrue is_text → IsUtf8 bytes.now }
-    ensures { MatchResult result (λ read. RecordAt separator bytes.now (texts_by T.text_of read.0) read.1.now) (UnreadAt (RecordFault separator bytes.now)) }
+    ensures { MatchResult result (λ read. RecordAt dialect bytes.now (texts_by T.text_of read.0) read.1.now) (UnreadAt (RecordFault dialect bytes.now)) }
 {
     let mut row = Vec::with_capacity(alloc, room)?;
     let mut rest = bytes;
     'fields: loop {
-        let (text, stop, after) = read_field(separator, is_text, rest, spare)?;
+        let (text, stop, after) = read_field(dialect, is_text, rest, spare)?;
         row.push(T::from(text))?;
         match stop {
             Stop::Separator => rest = after,
@@ -47,7 +48,7 @@ where
 /// The rows of lines.
 fn lines<'a, T>(
     alloc: Global,
-    separator: u8,
+    dialect: Dialect,
     is_text: bool,
     bytes: &'a [u8],
     spare: &mut Spare<'a>,
@@ -55,10 +56,10 @@ fn lines<'a, T>(
 where
     T: From<&'a str> + CellText,
     requires keeps { KeepsTexts T.from_gives T.text_of }
-    requires separator { IsSeparator separator }
+    requires separator { IsSeparator dialect.separator }
     requires text { IsTrue is_text → IsUtf8 bytes.now }
-    ensures err { OnErr result (IsLines separator bytes.now [] → ⊥) }
-    ensures read { MatchResult result (λ rows. IsLines separator bytes.now (rows_by T.text_of rows.items)) (UnreadAt (LinesFault separator bytes.now)) }
+    ensures err { OnErr result (IsLines dialect bytes.now [] → ⊥) }
+    ensures read { MatchResult result (λ rows. IsLines dialect bytes.now (rows_by T.text_of rows.items)) (UnreadAt (LinesFault dialect bytes.now)) }
 {
     let mut rows = Vec::new(alloc);
     let mut room = 0;
@@ -67,7 +68,7 @@ where
         match behind_line_end(rest) {
             Some(after) => rest = after,
             None => {
-                let (row, after) = record(alloc, separator, is_text, room, rest, spare)?;
+                let (row, after) = record(alloc, dialect, is_text, room, rest, spare)?;
                 // Most records have as many fields as the one before.
                 room = row.len();
                 rows.push(row)?;
@@ -114,25 +115,25 @@ pub fn read<'a>(
     bytes: &'a [u8],
     room: &'a mut Room,
 ) -> Result<Vec<Vec<&'a str>>, ReadError>
-    ensures rows { IfOk result (λ rows. IsCsv separator bytes.now (rows_of rows.items)) }
+    ensures rows { IfOk result (λ rows. IsCsv (with_quotes separator) bytes.now (rows_of rows.items)) }
 
     // Bytes that mean no row take no memory.
-    ensures promised { IsCsv separator bytes.now [] → IsOk result }
+    ensures promised { IsCsv (with_quotes separator) bytes.now [] → IsOk result }
 
     // Where there is a fault, no rows are the meaning of these bytes.
-    ensures none { IfErr result (AtFault (λ line fault. NoRows separator bytes.now)) }
-    ensures fault { IfErr result (AtFault (IsFault separator bytes.now)) }
+    ensures none { IfErr result (AtFault (λ line fault. NoRows (with_quotes separator) bytes.now)) }
+    ensures fault { IfErr result (AtFault (IsFault (with_quotes separator) bytes.now)) }
 {
-    read_with(alloc, separator, bytes, &mut Spare::new(room))
+    read_with(alloc, Dialect::new(separator), bytes, &mut Spare::new(room))
 }
 
-/// The rows of texts that bytes mean as CSV, as `read` gives them, each made a cell. What a room has left may serve for
-/// several.
+/// The rows of texts that bytes mean as CSV of a dialect, each made a cell, as `read` gives them of one that quotes. What
+/// a room has left may serve for several.
 ///
 /// Of this project.
 pub fn read_with<'a, T>(
     alloc: Global,
-    separator: Separator,
+    dialect: Dialect,
     bytes: &'a [u8],
     spare: &mut Spare<'a>,
 ) -> Result<Vec<Vec<T>>, ReadError>
@@ -140,19 +141,21 @@ where
     T: From<&'a str> + CellText,
     // A cell that is made of a text has that text.
     requires keeps { KeepsTexts T.from_gives T.text_of }
-    ensures rows { IfOk result (λ rows. IsCsv separator bytes.now (rows_by T.text_of rows.items)) }
+    ensures rows { IfOk result (λ rows. IsCsv dialect bytes.now (rows_by T.text_of rows.items)) }
 
     // Bytes that mean no row take no memory.
-    ensures promised { IsCsv separator bytes.now [] → IsOk result }
+    ensures promised { IsCsv dialect bytes.now [] → IsOk result }
 
     // Where there is a fault, no rows are the meaning of these bytes.
-    ensures none { IfErr result (AtFault (λ line fault. NoRows separator bytes.now)) }
-    ensures fault { IfErr result (AtFault (IsFault separator bytes.now)) }
+    ensures none { IfErr result (AtFault (λ line fault. NoRows dialect bytes.now)) }
+    ensures fault { IfErr result (AtFault (IsFault dialect bytes.now)) }
 {
     let text = behind_mark(bytes);
     // To test all bytes at once takes less than to test those of each field.
     let is_text = str::from_utf8(text).is_ok();
-    match lines(alloc, separator.byte(), is_text, text, spare) {
+    // No effect: the proof reads here that the separator may be one.
+    let _ = dialect.separator();
+    match lines(alloc, dialect, is_text, text, spare) {
         Ok(rows) => Ok(rows),
         Err(Unread::Faulty(fault, left)) => {
             let line = line_at(text, left);

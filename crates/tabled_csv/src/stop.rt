@@ -4,6 +4,8 @@ ghost use Rattle.std.specs.Prelude.{◌≡◌, ℕ, List, MatchOption};
 ghost use Rattle.tabled_csv.specs.Grammar.{begins_with, begins_with_mark};
 ghost use Rattle.tabled_csv.specs.Fields.{BlankAt, EndsLine, NoStop, StopsQuoted};
 
+use crate::dialect::Dialect;
+
 /// The bytes of U+FEFF, the byte order mark.
 const MARK: [u8; 3] = [0xEF, 0xBB, 0xBF];
 
@@ -16,10 +18,10 @@ pub(crate) enum Stop {
 }
 
 /// What is behind a closing quote, and the bytes after it, or nothing where no field may end.
-pub(crate) fn stop_at(separator: u8, bytes: &[u8]) -> Option<(Stop, &[u8])>
-    ensures { MatchOption result (NoStop separator bytes.now) (λ found. StopsQuoted separator bytes.now found.0 found.1.now) }
+pub(crate) fn stop_at(dialect: Dialect, bytes: &[u8]) -> Option<(Stop, &[u8])>
+    ensures { MatchOption result (NoStop dialect.separator bytes.now) (λ found. StopsQuoted dialect.separator bytes.now found.0 found.1.now) }
 {
-    if begins_with(separator, bytes) {
+    if begins_with(dialect.separator(), bytes) {
         return Some((Stop::Separator, &bytes[1..]));
     }
     if let Some(after) = behind_line_end(bytes) {

@@ -23,13 +23,13 @@ use Rattle.tabled_script.specs.declared.request.Source.{Source}
 
 -- bytes have these rows in a format
 abbrev pub HasRowsIn : Format → List ℕ → List (List (List ℕ)) → Type 0
-HasRowsIn (format.Csv separator) bytes rows = IsCsv separator bytes rows
+HasRowsIn (format.Csv dialect) bytes rows = IsCsv dialect bytes rows
 HasRowsIn format.Json bytes rows = MeansTable bytes rows
 
 -- bytes have no rows in a format, as shows in a line
 abbrev pub IsFaultyIn : Format → List ℕ → ℕ → SourceFault → Type 0
-IsFaultyIn (format.Csv separator) bytes line (source_fault.Csv fault) = NoRows separator bytes × IsFault separator bytes line fault
-IsFaultyIn (format.Csv separator) bytes line (source_fault.Json column fault) = ⊥
+IsFaultyIn (format.Csv dialect) bytes line (source_fault.Csv fault) = NoRows dialect bytes × IsFault dialect bytes line fault
+IsFaultyIn (format.Csv dialect) bytes line (source_fault.Json column fault) = ⊥
 IsFaultyIn format.Json bytes line (source_fault.Csv fault) = ⊥
 IsFaultyIn format.Json bytes line (source_fault.Json column fault) = MeansNoTable bytes × IsPlace (behind_mark bytes) line column
 

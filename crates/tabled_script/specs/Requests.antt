@@ -16,6 +16,7 @@ use Rattle.tabled_script.specs.declared.form.Form.{Form}
 use Rattle.tabled_script.specs.declared.form.Form.TheVariants as form
 use Rattle.tabled_script.specs.declared.refusal.Refusal.{Refusal}
 use Rattle.tabled_script.specs.declared.refusal.Refusal.TheVariants.{Contradictory, Failed, Misused, NoValue, NotText, OutOfMemory, Terminal}
+use Rattle.tabled_csv.specs.Grammar.{with_quotes}
 use Rattle.tabled_script.specs.declared.request.Format.{Format}
 use Rattle.tabled_script.specs.declared.request.Format.TheVariants as format
 use Rattle.tabled_script.specs.declared.request.Source.{Source}
@@ -201,7 +202,7 @@ writing_of asked = record {
 
 -- how the rows of a file are read
 abbrev pub format_of : ℕ → Kind → Format
-format_of separator kind.Csv = format.Csv separator
+format_of separator kind.Csv = format.Csv (with_quotes separator)
 format_of separator kind.Json = format.Json
 
 -- a source as it is asked for: its format, its name, and nothing of its bytes

@@ -14,7 +14,7 @@ ghost use Rattle.tabled_script.specs.declared.request.Format.TheVariants.{Csv};
 use crate::inputs::{RowsError, SourceFault};
 use std::alloc::{AllocError, Global};
 use std::io::{self, Write};
-use tabled_csv::{ReadError, Separator, Spare, WriteError, read_with, write_records};
+use tabled_csv::{Dialect, ReadError, Separator, Spare, WriteError, read_with, write_records};
 use tabled_language::LentText;
 
 /// Writes the texts of a table as CSV, and flushes the writer. All memory is asked for before the first byte: refused,
@@ -39,13 +39,13 @@ pub(crate) fn write_csv<W: Write>(
 /// The rows that bytes mean as CSV.
 pub(crate) fn csv_rows<'a>(
     alloc: Global,
-    separator: Separator,
+    dialect: Dialect,
     bytes: &'a [u8],
     spare: &mut Spare<'a>,
 ) -> Result<Vec<Vec<LentText<'a>>>, RowsError>
-    ensures { MatchResult result (λ rows. IsCsv separator bytes.now (texts_in_records rows.items)) (NoRowsIn (Csv separator) bytes.now) }
+    ensures { MatchResult result (λ rows. IsCsv dialect bytes.now (texts_in_records rows.items)) (NoRowsIn (Csv dialect) bytes.now) }
 {
-    match read_with(alloc, separator, bytes, spare) {
+    match read_with(alloc, dialect, bytes, spare) {
         Ok(rows) => Ok(rows),
         Err(ReadError::Faulty { line, fault }) => Err(RowsError::Faulty {
             line,

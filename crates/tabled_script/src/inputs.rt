@@ -112,7 +112,7 @@ fn rows_of<'a>(
     ensures { MatchResult result (λ rows. HasRows source.now (texts_in_records rows.items)) (NoRowsIn source.now.format source.now.bytes.items) }
 {
     match source.format {
-        Format::Csv(separator) => csv_rows(alloc, separator, &source.bytes, &mut spares.csv),
+        Format::Csv(dialect) => csv_rows(alloc, dialect, &source.bytes, &mut spares.csv),
         Format::Json => json_rows(alloc, &source.bytes, &mut spares.json),
     }
 }

@@ -14,7 +14,7 @@ use crate::refusal::Refusal;
 use crate::request::{Format, Request, Source};
 use crate::setting::{Drawn, Kind, Setting, Written};
 use std::alloc::{AllocError, Global};
-use tabled_csv::Separator;
+use tabled_csv::{Dialect, Separator};
 use tabled_draw::{Alignment, Style};
 use tabled_json::{Layout, Values};
 
@@ -349,7 +349,7 @@ fn format_of(kind: Kind, separator: Separator) -> Format
     ensures { result ≡ format_of separator kind }
 {
     match kind {
-        Kind::Csv => Format::Csv(separator),
+        Kind::Csv => Format::Csv(Dialect::new(separator)),
         Kind::Json => Format::Json,
     }
 }

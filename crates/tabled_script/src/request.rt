@@ -2,15 +2,15 @@
 
 use crate::form::Form;
 use std::alloc::Global;
-use tabled_csv::Separator;
+use tabled_csv::Dialect;
 
 /// How the rows of a file are read.
 ///
 /// Of this project.
 #[derive(Drop, Clone, Copy)]
 pub enum Format {
-    /// CSV, with what parts its fields.
-    Csv(Separator),
+    /// CSV, of a dialect.
+    Csv(Dialect),
     /// JSON: records, or rows as they are.
     Json,
 }

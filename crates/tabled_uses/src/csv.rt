@@ -1,7 +1,7 @@
 //! Tables read from CSV.
 
 use std::alloc::{AllocError, Global};
-use tabled_csv::{ReadError, Room, Separator, Spare, read, read_with};
+use tabled_csv::{Dialect, ReadError, Room, Separator, Spare, read, read_with};
 use tabled_draw::picture;
 use tabled_table::builder::Builder;
 
@@ -19,7 +19,7 @@ pub fn drawn(alloc: Global, csv: &[u8]) -> Result<String, ReadError> {
 /// Rows of texts that are lent.
 pub type LentRows<'a> = Vec<Vec<&'a str>>;
 
-/// The rows of two files of CSV, which share a room.
+/// The rows of a file of CSV, and of one whose quotes are bytes like others. They share a room.
 pub fn rows_of_both<'a>(
     alloc: Global,
     first: &'a [u8],
@@ -27,8 +27,9 @@ pub fn rows_of_both<'a>(
     room: &'a mut Room,
 ) -> Result<(LentRows<'a>, LentRows<'a>), ReadError> {
     let mut spare = Spare::new(room);
-    let rows = read_with(alloc, Separator::comma(), first, &mut spare)?;
-    let others = read_with(alloc, Separator::comma(), other, &mut spare)?;
+    let csv = Dialect::new(Separator::comma());
+    let rows = read_with(alloc, csv, first, &mut spare)?;
+    let others = read_with(alloc, csv.quoting(false), other, &mut spare)?;
     Ok((rows, others))
 }
 

@@ -2,7 +2,7 @@
 
 use std::alloc::{AllocError, Global};
 use std::test::Fail;
-use tabled_csv::Separator;
+use tabled_csv::{Dialect, Separator};
 use tabled_script::{Form, Format, Request, Source, answer};
 
 /// Files, in order, parted by bars: each has its name, an equals sign and its text. By their names they are JSON or CSV.
@@ -17,7 +17,7 @@ fn sources(alloc: Global, files: &str) -> Result<Vec<Source>, AllocError> {
         let format = if name.ends_with(".json") {
             Format::Json
         } else {
-            Format::Csv(Separator::comma())
+            Format::Csv(Dialect::new(Separator::comma()))
         };
         sources.push(Source {
             name: String::from_str(alloc, name)?,

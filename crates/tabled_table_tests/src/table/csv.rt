@@ -3,13 +3,15 @@
 use std::alloc::Global;
 use std::io::{self, Write};
 use std::test::Fail;
-use tabled_csv::{ReadError, Room, Separator, WriteError, read, write, write_records};
+use tabled_csv::{
+    Dialect, ReadError, Room, Separator, Spare, WriteError, read, read_with, write, write_records,
+};
 use tabled_grid::records::VecRecords;
 
 /// What bytes are read as: rows with `|` behind each field and `/` behind each row, or the error.
-fn shown(alloc: Global, separator: Separator, bytes: &[u8]) -> Result<String, Fail> {
+fn shown(alloc: Global, dialect: Dialect, bytes: &[u8]) -> Result<String, Fail> {
     let mut room = Room::new(alloc)?;
-    let rows = match read(alloc, separator, bytes, &mut room) {
+    let rows: Vec<Vec<&str>> = match read_with(alloc, dialect, bytes, &mut Spare::new(&mut room)) {
         Ok(rows) => rows,
         Err(error) => return Ok(format!(in alloc; "{error}")?),
     };
@@ -26,7 +28,7 @@ fn shown(alloc: Global, separator: Separator, bytes: &[u8]) -> Result<String, Fa
 
 #[test]
 fn reads(rt: HostRuntime) -> Result<(), Fail> {
-    let comma = Separator::comma();
+    let comma = Dialect::new(Separator::comma());
     for &(bytes, want) in &[
         ("", ""),
         ("a,b\nc,d\n", "a|b|/c|d|/"),
@@ -59,6 +61,22 @@ fn reads(rt: HostRuntime) -> Result<(), Fail> {
     assert_eq!(rt; quoted.as_str(), "line 1: a field is not UTF-8");
     let below = shown(rt.alloc(), comma, &[34, 34, 34, 10, 255, 10, 34, 10])?;
     assert_eq!(rt; below.as_str(), "line 2: a field is not UTF-8");
+    Ok(())
+}
+
+#[test]
+fn reads_quotes_as_other_bytes(rt: HostRuntime) -> Result<(), Fail> {
+    let plain = Dialect::new(Separator::comma()).quoting(false);
+    for &(bytes, want) in &[
+        ("\"a,b\"\n", "\"a|b\"|/"),
+        ("\"\r\n\"\"\n\n", "\"|/\"\"|/"),
+        ("a,\"b\"c\n\"", "a|\"b\"c|/\"|/"),
+    ] {
+        let read = shown(rt.alloc(), plain, bytes.as_bytes())?;
+        assert_eq!(rt; read.as_str(), want);
+    }
+    let faulty = shown(rt.alloc(), plain, &[34, 10, 255])?;
+    assert_eq!(rt; faulty.as_str(), "line 2: a field is not UTF-8");
     Ok(())
 }
 
@@ -173,9 +191,19 @@ fn reads_or_is_refused(rt: HostRuntime) {
         let Ok(mut room) = Room::new(rt.alloc()) else {
             return;
         };
-        match read(rt.alloc(), Separator::comma(), bytes.as_bytes(), &mut room) {
-            Ok(rows) => assert!(rt; !rows.is_empty()),
-            Err(error) => assert!(rt; error == ReadError::OutOfMemory),
+        let mut spare = Spare::new(&mut room);
+        for quoting in [true, false] {
+            let dialect = Dialect::new(Separator::comma()).quoting(quoting);
+            let read: Result<Vec<Vec<&str>>, ReadError> = read_with(
+                rt.alloc(),
+                dialect,
+                bytes.as_bytes(),
+                &mut spare,
+            );
+            match read {
+                Ok(rows) => assert!(rt; !rows.is_empty()),
+                Err(error) => assert!(rt; error == ReadError::OutOfMemory),
+            }
         }
     }
 }

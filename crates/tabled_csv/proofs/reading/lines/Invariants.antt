@@ -6,8 +6,8 @@ use Rattle.tabled_csv.proofs.reading.lines.Given as goal
 
 abbrev pub invariant-lines : goal.invariant-lines
 invariant-lines g l = record {
-  read : RowsRead l.separator l.bytes (rows_by g.T.CellText.text_of l.rows.items) l.rest;
-  blank : LinesAt l.separator l.bytes [] → LinesAt l.separator l.rest [];
+  read : RowsRead l.dialect l.bytes (rows_by g.T.CellText.text_of l.rows.items) l.rest;
+  blank : LinesAt l.dialect l.bytes [] → LinesAt l.dialect l.rest [];
   text : IsTrue l.is_text → IsUtf8 l.rest;
 }
 

@@ -9,14 +9,14 @@ use Rattle.tabled_csv.proofs.reading.record.Goals as goal
 pub returns-in_err-text : goal.returns-in_err-text
 returns-in_err-text g c =
     let p = err_from_is_err_and c.from_residual-in_err-text.result c.from_residual-in_err-text.ensures.1 in
-    let s = c.args.separator in
+    let s = c.args.dialect in
     rw (p.1, p.2)
     (faulty-at (FaultAt s c.fields.rest.now) (RecordFault s c.args.bytes.now) c.in_err-text.field-0.0
     (none-read s c.args.bytes.now c.fields.rest.now (map g.T.CellText.text_of c.fields.row.items) c.fields.invariant.read c.requires.separator) c.in_err-text.ensures)
 
 pub fields-preserved : goal.fields-preserved
 fields-preserved g c =
-    let s = c.args.separator in
+    let s = c.args.dialect in
     let texts = map g.T.CellText.text_of c.fields.row.items in
     let text = c.in_ok-text.text.now in
     let after = c.in_ok-text.after.now in
@@ -31,6 +31,6 @@ fields-preserved g c =
 
 pub fields-init : goal.fields-init
 fields-init g c = record {
-  read = rw c.in_ok-row.ensures.items (no-field-read c.args.separator c.args.bytes.now);
+  read = rw c.in_ok-row.ensures.items (no-field-read c.args.dialect c.args.bytes.now);
   text = c.requires.text;
 }

@@ -4,7 +4,7 @@ use Rattle.tabled_csv.proofs.reading.record.Given as goal
 
 abbrev pub invariant-fields : goal.invariant-fields
 invariant-fields g l = record {
-  read : FieldsRead l.separator l.bytes (map g.T.CellText.text_of l.row.items) l.rest;
+  read : FieldsRead l.dialect l.bytes (map g.T.CellText.text_of l.row.items) l.rest;
   text : IsTrue l.is_text → IsUtf8 l.rest;
 }
 

@@ -6,5 +6,5 @@ use Rattle.tabled_script.proofs.csv_form.csv_rows.Goals as goal
 
 pub returns-in-Ok : goal.returns-in-Ok
 returns-in-Ok c =
-    subst (λ (rows : List (List (List ℕ))). IsCsv c.args.separator c.args.bytes.now rows)
+    subst (λ (rows : List (List (List ℕ))). IsCsv c.args.dialect c.args.bytes.now rows)
     (sym (map-map (map bytes_of) (λ (row : Vec LentText). row.items) c.in-Ok.rows.items)) c.in-Ok.ensures.rows
