@@ -5,6 +5,7 @@ ghost use Rattle.tabled_grid.specs.Grid.{IsEven, grid_of, map_items};
 ghost use Rattle.tabled_script.specs.InMemory.{state_in};
 ghost use Rattle.tabled_steps.specs.States.{after_all};
 
+use crate::names::unknown_names_text;
 use crate::notes::Notes;
 use crate::script_form::write_script;
 use crate::telling::{Doubt, Lines, doubt_line};
@@ -36,7 +37,12 @@ pub(crate) fn run_checked<E: Write>(
     for step in steps {
         let number = numbers.next().copied().unwrap_or(0);
         let looks = checks_steps || script_end < number;
-        let look = Look::new(alloc, &step, records, spans, looks, checks_steps)?;
+        let doubt = if looks {
+            doubt_of(alloc, &step, lines.step_words(number), records)?
+        } else {
+            None
+        };
+        let look = Look::new(alloc, doubt, records, spans, checks_steps)?;
         if let Err((_, error)) = run(alloc, records, spans, vec![in alloc; step]?) {
             return Err(error);
         }
@@ -58,22 +64,16 @@ struct Look {
 impl Look {
     ghost use Rattle.tabled_grid.specs.Grid.{IsEven, grid_of, map_items};
 
-    /// Looks at a step, and at its table, where each is asked for.
+    /// Looks at a table where that is asked for and its step is not doubtful.
     fn new(
         alloc: Global,
-        step: &Step,
+        doubt: Option<Doubt>,
         records: &Vec<Vec<LentText>>,
         spans: &SpannedConfig,
-        looks_at_step: bool,
         looks_at_table: bool,
     ) -> Result<Self, AllocError>
         requires { IsEven (grid_of (map_items records.now.items)) }
     {
-        let doubt = if looks_at_step {
-            doubt_of(alloc, step, records)?
-        } else {
-            None
-        };
         let table = if looks_at_table && doubt.is_none() {
             Some(printed(alloc, records, spans)?)
         } else {
@@ -101,14 +101,18 @@ impl Look {
     }
 }
 
-/// What is doubtful of a step before it is done.
+/// What is doubtful of a step of these words before it is done.
 fn doubt_of(
     alloc: Global,
     step: &Step,
+    words: &[String],
     records: &Vec<Vec<LentText>>,
 ) -> Result<Option<Doubt>, AllocError>
     requires { IsEven (grid_of (map_items records.now.items)) }
 {
+    if let Some(text) = unknown_names_text(alloc, step, words, records)? {
+        return Ok(Some(Doubt::NamesNoColumn(text)));
+    }
     if step.names_nothing(alloc, records)? {
         return Ok(Some(Doubt::NamesNothing));
     }

@@ -17,6 +17,7 @@ pub mod laws;
 mod lending;
 mod limits;
 mod message;
+mod names;
 mod narrow;
 mod notes;
 mod outcome;
@@ -31,6 +32,7 @@ mod setting;
 mod telling;
 #[cfg(test)]
 mod tests;
+mod told_words;
 mod watched;
 mod words;
 

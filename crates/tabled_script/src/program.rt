@@ -84,10 +84,12 @@ pub fn draw_script<R: Read, W: Write>(alloc: Global, reader: &mut R, writer: &mu
 /// Nothing is written but the table. What else there is to tell, but why writing failed, goes to `errors`, in a line or two each; where that can't
 /// be written, or memory runs out, the answer is the same. A fault is told as that of `line N` of the script, of `step N`
 /// of the request, or of a line of a file, with its likely cure and the words of the line; first rows that differ with
-/// both; a picture that can't be as narrow with the columns that it takes. Of a step of the request with a selector that
-/// names no cell of the table before it, or whose range lies outside, `names nothing in the table:` is told with its words.
-/// Where steps are checked, this is told of those of the script, too, and of each step that it changes nothing, and of
-/// files whose rows have not all as many texts as the first; the status is 5 then.
+/// both; a picture that can't be as narrow with the columns that it takes. Of a step of the request that goes by names of
+/// columns, those that are no text of the first row before it are told, and the texts that are; of another one with a selector
+/// that names no cell of the table before it, or whose range lies outside, `names nothing in the table:` with its words.
+/// Where steps are checked, this is told of those of the script, too (but of names of kept lines alone that they name nothing),
+/// and of each step that it changes nothing, and of files whose rows have not all as many texts as the first; the status is 5
+/// then.
 ///
 /// Of this project.
 pub fn answer<W: Write, E: Write>(

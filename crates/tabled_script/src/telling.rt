@@ -3,19 +3,16 @@
 use crate::cures::cure_of_json;
 use crate::inputs::{JoinError, RowsError, SourceFault, SourcesError, lent_step};
 use crate::json_form::EqualKeys;
-use crate::message::{complaint, push_quoted};
+use crate::message::complaint;
 use crate::notes::Notes;
 use crate::outcome::{FAILED, OUT_OF_MEMORY, Outcome};
 use crate::request::{Request, Source};
+use crate::told_words::ToldWords;
 use std::alloc::{AllocError, Global};
 use std::io::Write;
-use tabled_grid::records::CellText;
 use tabled_language::{
     Fault, LentText, Origin, count_lines, faulty_word, faulty_word_of_line, origin_of,
 };
-
-/// How many bytes of a line are told.
-const TOLD: usize = 400;
 
 /// What a script is read from, as who wrote it counts.
 #[derive(Clone, Copy)]
@@ -27,22 +24,14 @@ pub(crate) struct Lines<'s, 'r> {
 }
 
 /// What is doubtful of a step.
-#[derive(Clone, Copy)]
+#[derive(Drop)]
 pub(crate) enum Doubt {
+    /// It goes by names that no column has, as this says.
+    NamesNoColumn(String),
     NamesNothing,
     ChangesNothing,
     /// It wraps texts to no column.
     LeavesNoText,
-}
-
-impl Doubt {
-    fn text(self) -> &'static str {
-        match self {
-            Doubt::NamesNothing => "names nothing in the table:",
-            Doubt::ChangesNothing => "changes nothing in the table:",
-            Doubt::LeavesNoText => "leaves no text, since a width of 0 has room for none:",
-        }
-    }
 }
 
 impl<'s, 'r> Lines<'s, 'r> {
@@ -68,6 +57,14 @@ impl<'s, 'r> Lines<'s, 'r> {
             (Origin::Words(number), Fault::WordCount) => number < self.steps.len(),
             (Origin::Words(number), Fault::UnknownWord) => 1 < number,
             _ => false,
+        }
+    }
+
+    /// The words of the line of a number, if it is a step of the arguments.
+    pub(crate) fn step_words(&self, number: usize) -> &'r [String] {
+        match self.origin(number) {
+            Origin::Words(number) => self.step(number),
+            Origin::Row(_) | Origin::Line(_) => &[],
         }
     }
 
@@ -105,52 +102,6 @@ impl<'s, 'r> Lines<'s, 'r> {
             Origin::Line(number) => faulty_word_of_line(alloc, self.line(number)),
             Origin::Words(number) => faulty_word(alloc, &lent_step(alloc, self.step(number))?),
         }
-    }
-}
-
-/// Words that are told, up to so many bytes.
-#[derive(Drop)]
-struct ToldWords {
-    words: Vec<String>,
-    /// How many more bytes are told.
-    left: usize,
-    is_cut: bool,
-}
-
-impl ToldWords {
-    fn new(alloc: Global) -> Self {
-        ToldWords {
-            words: Vec::new(alloc),
-            left: TOLD,
-            is_cut: false,
-        }
-    }
-
-    /// Adds a word, or its beginning, while there is room for it.
-    fn push(&mut self, alloc: Global, word: &[u8]) -> Result<(), AllocError> {
-        if self.left == 0 {
-            self.is_cut = true;
-            return Ok(());
-        }
-        let end = word.len().min(self.left);
-        self.words
-            .push(String::from_utf8_lossy(alloc, &word[..end])?)?;
-        // Each word has a byte between it and the next one.
-        self.left = (self.left - end).saturating_sub(1);
-        self.is_cut = end < word.len();
-        Ok(())
-    }
-
-    /// Adds the words in quotes to what is told, and whether there are more.
-    fn push_to(&self, told: &mut String) -> Result<(), AllocError> {
-        for word in &self.words {
-            told.push(' ')?;
-            push_quoted(told, word.as_str())?;
-        }
-        if self.is_cut {
-            told.push_str(" ..")?;
-        }
-        Ok(())
     }
 }
 
@@ -260,7 +211,7 @@ fn fault_lines(
     Ok(told)
 }
 
-/// A line that says where a step stands and what is doubtful of it, and its words.
+/// A line that says where a step stands and what is doubtful of it, and its words, but where names say it.
 pub(crate) fn doubt_line(
     alloc: Global,
     lines: Lines,
@@ -269,7 +220,17 @@ pub(crate) fn doubt_line(
 ) -> Result<String, AllocError> {
     let origin = lines.origin(number);
     let mut told = begun(alloc, origin)?;
-    told.push_str(doubt.text())?;
+    let text = match &doubt {
+        Doubt::NamesNoColumn(text) => {
+            told.push_str(text.as_str())?;
+            told.push('\n')?;
+            return Ok(told);
+        }
+        Doubt::NamesNothing => "names nothing in the table:",
+        Doubt::ChangesNothing => "changes nothing in the table:",
+        Doubt::LeavesNoText => "leaves no text, since a width of 0 has room for none:",
+    };
+    told.push_str(text)?;
     lines.words(alloc, origin)?.push_to(&mut told)?;
     told.push('\n')?;
     Ok(told)
@@ -351,18 +312,9 @@ fn difference_lines(
     let mut told = format!(in alloc;
         "tabled_script: {name}: its first row is not that of {other}\n "
     )?;
-    told_texts(alloc, first)?.push_to(&mut told)?;
+    ToldWords::of_texts(alloc, first)?.push_to(&mut told)?;
     told.push_str(" in place of")?;
-    told_texts(alloc, head)?.push_to(&mut told)?;
+    ToldWords::of_texts(alloc, head)?.push_to(&mut told)?;
     told.push('\n')?;
-    Ok(told)
-}
-
-/// As many texts of a row as are told.
-fn told_texts(alloc: Global, row: &[LentText]) -> Result<ToldWords, AllocError> {
-    let mut told = ToldWords::new(alloc);
-    for text in row {
-        told.push(alloc, text.text().as_bytes())?;
-    }
     Ok(told)
 }

@@ -295,9 +295,9 @@ fn arguments_ask_for_steps_and_forms(rt: HostRuntime) -> Result<(), Fail> {
              tabled_script: line 8: names nothing in the table: 'tabs' '1' 'not' 'all' 'all'\n\
              tabled_script: line 9: names nothing in the table: 'cspan' '2' 'last-row-plus' '1'\n\
              tabled_script: line 10: names nothing in the table: 'rspan' '2' 'skip' '1' 'frame'\n\
-             tabled_script: line 11: names nothing in the table: 'remove' 'named' 'b'\n\
+             tabled_script: line 11: no column is named 'b': the first row has 'a'\n\
              tabled_script: step 2: names nothing in the table: 'remove' 'columns' '9' '10'\n\
-             tabled_script: step 3: names nothing in the table: 'remove' 'named' 'b'\n\
+             tabled_script: step 3: no column is named 'b': the first row has 'h'\n\
              tabled_script: step 4: names nothing in the table: 'extract' '0' '1' '1' '1'\n",
         ),
         // Each kind of step that may change nothing.
@@ -347,7 +347,30 @@ fn arguments_ask_for_steps_and_forms(rt: HostRuntime) -> Result<(), Fail> {
             "row\ta\nset\tcell\t9\t9\tx\n",
             0,
             "shape\t2\t1\nrow\th\nrow\ta\n",
-            "tabled_script: step 2: names nothing in the table: 'remove' 'named' 'a'\n",
+            "tabled_script: step 2: no column is named 'a': the first row has 'h'\n",
+        ),
+        // Names that no column has, each kind of step that may go by one, and words that are none.
+        (
+            "--csv|f|--to|csv|keep|columns|a|b|0|-1|1:|=a|-|3:b|then|keep|rows|0|q=|-1:|b>1|r!=x|then|sort|rows|1|e|number|then|merge|vertical|inverse|name|d|then|dup|name|c|skip|0|name|f|then|remove|named|g|then|sort|rows|1|0|text|then|keep|rows|:|a<9",
+            "a,b,c\n1,2,3\n",
+            "",
+            0,
+            "a,b,c\n1,2,3\n",
+            "tabled_script: step 1: no column is named '-' '3:b': the first row has 'a' 'b' 'c'\n\
+             tabled_script: step 2: no column is named 'q' 'r': the first row has 'a' 'b' 'c'\n\
+             tabled_script: step 3: no column is named 'e': the first row has 'a' 'b' 'c'\n\
+             tabled_script: step 4: no column is named 'd': the first row has 'a' 'b' 'c'\n\
+             tabled_script: step 5: no column is named 'f': the first row has 'a' 'b' 'c'\n\
+             tabled_script: step 6: no column is named 'g': the first row has 'a' 'b' 'c'\n",
+        ),
+        (
+            "--check|keep|columns|a|then|set|name|c|x",
+            "",
+            "",
+            5,
+            "shape\t0\t0\n",
+            "tabled_script: step 1: no column is named 'a': there is none\n\
+             tabled_script: step 2: no column is named 'c': there is none\n",
         ),
         // A word that ends steps, as a text.
         (
