@@ -29,8 +29,10 @@ What is written
                                 ascii modern rounded sharp extended psql markdown re_structured_text dots
                                 ascii_rounded blank empty
                                 as markdown with texts escaped, and each cell by itself
-  --align LETTERS               draws it with texts to the left (l), in the middle (c) or to the right (r): a letter for
-                                each column, the last one for those behind it
+  --align HOW                   draws it with texts to the left (l), in the middle (c) or to the right (r): a letter for
+                                each column, the last one for those behind it; or, with commas between, auto (columns
+                                of numbers to the right, the others to the left) and NAME=l, NAME=c, NAME=r for the
+                                columns of a name
   --width N                     draws it in at most N columns: lines of texts are cut between words where that is needed;
                                 without it, and on a terminal, as wide as that at most
   --to FORM                     writes it as a script (script), as without it, its texts as CSV (csv), its rows as records of

@@ -1,7 +1,7 @@
 pub mod Again
-pub mod AlignmentLetters
 pub mod Changes
 pub mod Common
+pub mod EachOf
 pub mod Levels
 pub mod Narrowed
 pub mod Outcomes

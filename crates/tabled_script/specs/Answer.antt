@@ -41,12 +41,12 @@ picture_of script = drawn (ended script).texts (ended script).spans
 -- a state is written as these bytes
 abbrev pub IsWrittenAs : Form → State → List ℕ → Type 0
 IsWrittenAs form.Script s bytes = bytes ≡ print s
-IsWrittenAs (form.Picture style alignments) s bytes = bytes ≡ drawn_with style alignments.items s.texts s.spans
-IsWrittenAs (form.NarrowPicture width style alignments) s bytes = IsNarrowPicture width style alignments.items s.texts s.spans bytes
-IsWrittenAs (form.Markdown alignments) s bytes = bytes ≡ markdown alignments.items s.texts s.spans
+IsWrittenAs (form.Picture style alignments) s bytes = bytes ≡ drawn_with style (alignments s.texts) s.texts s.spans
+IsWrittenAs (form.NarrowPicture width style alignments) s bytes = IsNarrowPicture width style (alignments s.texts) s.texts s.spans bytes
+IsWrittenAs (form.Markdown alignments) s bytes = bytes ≡ markdown (alignments s.texts) s.texts s.spans
 IsWrittenAs (form.Csv separator) s bytes = bytes ≡ csv_of separator s.texts.cells
 IsWrittenAs (form.Json layout values) s bytes = bytes ≡ json_of layout values s.texts.cells
-IsWrittenAs (form.Html page) s bytes = bytes ≡ html s.texts s.spans (look_of page)
+IsWrittenAs (form.Html page) s bytes = bytes ≡ html s.texts s.spans (look_of page s.texts)
 
 -- a state can't be written so: no picture of it is as narrow as is asked for, or two keys are equal
 abbrev pub IsUnwritable : Form → State → Type 0

@@ -5,9 +5,9 @@ use Rattle.std.specs.List.{after_first, before_first, position_or_len}
 use Rattle.std.specs.Option.{is_some, option_map, unwrap_or}
 use Rattle.std.specs.Str.{bytes_eq}
 use Rattle.std.specs.String.{string_bytes}
-use Rattle.tabled_draw.specs.declared.alignment.Alignment.{Alignment}
 use Rattle.tabled_language.specs.Word.{length_of}
-use Rattle.tabled_script.specs.Settings.{alignments_of, drawn_named, forms, named_in, options, read_by, separator_of, takes_value}
+use Rattle.tabled_script.specs.Aligners.{Aligner, aligner_of}
+use Rattle.tabled_script.specs.Settings.{drawn_named, forms, named_in, options, read_by, separator_of, takes_value}
 use Rattle.tabled_script.specs.declared.arguments.Next.{Next}
 use Rattle.tabled_script.specs.declared.arguments.Next.TheVariants as next
 use Rattle.tabled_script.specs.declared.refusal.Misuse.{Misuse}
@@ -24,7 +24,7 @@ pub record Asked : Type 0 where
   pub written : Option Written
   pub draws : Bool
   pub drawn : Option Drawn
-  pub alignments : Option (List Alignment)
+  pub alignments : Option Aligner
   pub width : Option ℕ
   pub columns : Option ℕ
   pub sources : List (Kind × List ℕ)
@@ -81,7 +81,7 @@ file_named name = if length name == 0 then None else Some name
 abbrev pub set_to : Setting → List ℕ → Asked → Asked
 set_to setting.Form name asked = record asked { written = named_in forms name }
 set_to setting.Style name asked = record asked { drawn = drawn_named name }
-set_to setting.Alignments letters asked = record asked { alignments = alignments_of letters }
+set_to setting.Alignments value asked = record asked { alignments = aligner_of value }
 set_to setting.Width number asked = record asked { width = length_of number }
 set_to setting.Columns number asked = record asked { columns = length_of number }
 set_to (setting.Rows kind) name asked = record asked { sources = asked.sources ++ (kind, name) ∷ []; reads_input = asked.reads_input || is_input name }

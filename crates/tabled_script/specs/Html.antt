@@ -20,15 +20,19 @@ html_alignment alignment.Left = html_alignment_of.Left
 html_alignment alignment.Center = html_alignment_of.Center
 html_alignment alignment.Right = html_alignment_of.Right
 
--- how a table is written, as it is asked for
-abbrev pub look_of : HtmlPage → Look
-look_of page = record plain_look {
+-- how a table is written, as it is asked for, with these alignments
+abbrev pub look_with : HtmlPage → List HtmlAlignment → Look
+look_with page alignments = record plain_look {
   header = page.header;
   caption = option_map string_bytes page.caption;
-  alignments = map html_alignment page.alignments.items;
+  alignments = alignments;
   is_whole = page.is_whole;
 }
 
+-- how a table of texts is written, as it is asked for
+abbrev pub look_of : HtmlPage → Grid (List ℕ) → Look
+look_of page g = look_with page (map html_alignment (page.alignments g))
+
 -- the table that is written is read as elements that form the grid
 abbrev pub ShowsGrid : HtmlPage → Grid (List ℕ) → SpanMap → Type 0
-ShowsGrid page g spans = IsEmptyWithoutRows g → Shows g (keep_written g.rows g.columns spans) (look_of page) (fragment g spans (look_of page))
+ShowsGrid page g spans = IsEmptyWithoutRows g → Shows g (keep_written g.rows g.columns spans) (look_of page g) (fragment g spans (look_of page g))

@@ -1,4 +1,6 @@
 pub mod Again
+pub mod Aligned
+pub mod Aligners
 pub mod Answer
 pub mod Arguments
 pub mod Cuts

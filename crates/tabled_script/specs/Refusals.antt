@@ -78,7 +78,7 @@ names_text kind name names = codes "there is no " ++ (kind ++ (32 ∷ name ++ (5
 abbrev pub value_text : Setting → List ℕ → List ℕ
 value_text setting.Style name = names_text (codes "style") name (flat_map (λ style. 32 ∷ style.now) NAMES)
 value_text setting.Form name = names_text (codes "form") name (flat_map (λ form. 32 ∷ form.0) forms)
-value_text setting.Alignments letters = codes "columns are aligned by letters l, c and r, not by " ++ letters
+value_text setting.Alignments value = codes "columns are aligned by letters, as llr, by auto, or by names, as Price=r,Region=c, not by " ++ value
 value_text setting.Width number = number ++ codes " is no number of columns"
 value_text setting.Columns number = number ++ codes " is no number of columns"
 value_text setting.Header number = number ++ codes " is no number of rows"

@@ -4,11 +4,11 @@ use Rattle.std.specs.List.{find}
 use Rattle.std.specs.Option.{is_some, option_and_then, option_map, unwrap_or}
 use Rattle.std.specs.String.{string_bytes}
 use Rattle.tabled_draw.specs.Styles.{ascii}
-use Rattle.tabled_draw.specs.declared.alignment.Alignment.{Alignment}
 use Rattle.tabled_json.specs.declared.form.Layout.{Layout}
 use Rattle.tabled_json.specs.declared.form.Layout.TheVariants as layout
 use Rattle.tabled_json.specs.declared.form.Values.{Values}
 use Rattle.tabled_json.specs.declared.form.Values.TheVariants as values
+use Rattle.tabled_script.specs.Aligners.{Aligner, listed}
 use Rattle.tabled_script.specs.Arguments.{Asked, is_set}
 use Rattle.tabled_script.specs.declared.arguments.Next.{Next}
 use Rattle.tabled_script.specs.declared.arguments.Next.TheVariants as next
@@ -169,7 +169,7 @@ pub record Writing : Type 0 where
   pub how : Written
   pub look : Drawn
   pub width : Option ℕ
-  pub alignments : List Alignment
+  pub alignments : Aligner
   pub separator : ℕ
   pub values : Values
   pub header : ℕ
@@ -178,14 +178,14 @@ pub record Writing : Type 0 where
 -- the form has what is said of it
 abbrev pub IsForm : Writing → Form → Type 0
 IsForm writing form.Script = writing.how ≡ written.Script
-IsForm writing (form.Picture style alignments) = (writing.how ≡ written.Picture) × (writing.look ≡ drawn.Style style) × (writing.width ≡ None) × (writing.alignments ≡ alignments.items)
+IsForm writing (form.Picture style alignments) = (writing.how ≡ written.Picture) × (writing.look ≡ drawn.Style style) × (writing.width ≡ None) × (writing.alignments ≡ alignments)
 IsForm writing (form.NarrowPicture width style alignments) =
-    (writing.how ≡ written.Picture) × (writing.look ≡ drawn.Style style) × (writing.width ≡ Some width) × (writing.alignments ≡ alignments.items)
-IsForm writing (form.Markdown alignments) = (writing.how ≡ written.Picture) × (writing.look ≡ drawn.Markdown) × (writing.alignments ≡ alignments.items)
+    (writing.how ≡ written.Picture) × (writing.look ≡ drawn.Style style) × (writing.width ≡ Some width) × (writing.alignments ≡ alignments)
+IsForm writing (form.Markdown alignments) = (writing.how ≡ written.Picture) × (writing.look ≡ drawn.Markdown) × (writing.alignments ≡ alignments)
 IsForm writing (form.Csv byte) = (writing.how ≡ written.Csv) × (writing.separator ≡ byte)
 IsForm writing (form.Json laid values) = IsJson writing.how laid × (writing.values ≡ values)
 IsForm writing (form.Html page) =
-    IsHtml writing.how page.is_whole × (writing.header ≡ page.header) × (writing.caption ≡ option_map string_bytes page.caption) × (writing.alignments ≡ page.alignments.items)
+    IsHtml writing.how page.is_whole × (writing.header ≡ page.header) × (writing.caption ≡ option_map string_bytes page.caption) × (writing.alignments ≡ page.alignments)
 
 -- how the table that is asked for is to be written
 abbrev pub writing_of : Asked → Writing
@@ -193,7 +193,7 @@ writing_of asked = record {
   how = written_of asked;
   look = drawn_of asked;
   width = width_of asked;
-  alignments = unwrap_or asked.alignments [];
+  alignments = unwrap_or asked.alignments (listed []);
   separator = to_separator_of asked;
   values = values_of asked;
   header = unwrap_or asked.header 0;

@@ -1,11 +1,9 @@
 -- The options of the program, and what their values mean.
 use Rattle.std.specs.Prelude.{ℕ, Bool, true, false, ◌==◌, ◌&&◌, ◌||◌, nat_le, not, if◌then◌else◌, List, [], ◌∷◌, codes, Option, None, Some}
 use Rattle.std.specs.List.{ends_with}
-use Rattle.std.specs.Option.{option_and_then, option_map}
+use Rattle.std.specs.Option.{option_map}
 use Rattle.std.specs.Str.{bytes_eq}
 use Rattle.tabled_draw.specs.Styles.{style_named}
-use Rattle.tabled_draw.specs.declared.alignment.Alignment.{Alignment}
-use Rattle.tabled_draw.specs.declared.alignment.Alignment.TheVariants as alignment
 use Rattle.tabled_script.specs.declared.setting.Drawn.{Drawn}
 use Rattle.tabled_script.specs.declared.setting.Drawn.TheVariants as drawn
 use Rattle.tabled_script.specs.declared.setting.Kind.{Kind}
@@ -82,18 +80,6 @@ takes_value other = true
 -- what a picture is drawn in by a name: Markdown with its texts escaped, or the style of that name
 abbrev pub drawn_named : List ℕ → Option Drawn
 drawn_named name = if bytes_eq name (codes "markdown") then Some drawn.Markdown else option_map drawn.Style (style_named name)
-
--- l, c or r: to the left, in the middle or to the right
-abbrev pub alignment_of : ℕ → Option Alignment
-alignment_of letter =
-    if letter == 108 then Some alignment.Left
-    else (if letter == 99 then Some alignment.Center
-    else (if letter == 114 then Some alignment.Right else None))
-
--- the alignments of letters, where each has one
-abbrev pub alignments_of : List ℕ → Option (List Alignment)
-alignments_of [] = Some []
-alignments_of (letter ∷ letters) = option_and_then (λ first. option_map (λ others. first ∷ others) (alignments_of letters)) (alignment_of letter)
 
 -- a byte may part the fields of CSV: one of ASCII, but no quote and none that ends lines
 abbrev pub may_part : ℕ → Bool

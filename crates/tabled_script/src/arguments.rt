@@ -8,15 +8,16 @@ ghost use Rattle.tabled_script.specs.Refusals.{IsRefused, Takes};
 ghost use Rattle.tabled_script.specs.Requests.{nothing_asked};
 ghost use Rattle.tabled_script.specs.Settings.{named_in, options};
 
+use crate::alignment_words::aligner_of;
+use crate::alignments::Alignments;
 use crate::refusal::{Misuse, Refusal};
 use crate::setting::{
-    Drawn, Kind, Setting, Written, alignments_of, drawn_named, read_by, separator_of, written_named,
+    Drawn, Kind, Setting, Written, drawn_named, read_by, separator_of, written_named,
 };
 use std::alloc::{AllocError, Global};
 use std::marker::Model;
 use std::mem;
 use tabled_csv::Separator;
-use tabled_draw::Alignment;
 use tabled_language::length_of;
 
 /// What an argument is, by those before it.
@@ -39,7 +40,7 @@ pub struct Arguments {
     pub(crate) written: Option<Written>,
     pub(crate) draws: bool,
     pub(crate) drawn: Option<Drawn>,
-    pub(crate) alignments: Option<Vec<Alignment>>,
+    pub(crate) alignments: Option<Alignments>,
     pub(crate) width: Option<usize>,
     pub(crate) columns: Option<usize>,
     pub(crate) sources: Vec<(Kind, String)>,
@@ -72,7 +73,7 @@ impl Model for Arguments {
       written = a.written;
       draws = a.draws;
       drawn = a.drawn;
-      alignments = option_map (λ list. list.items) a.alignments;
+      alignments = a.alignments;
       width = a.width;
       columns = a.columns;
       sources = named_files a.sources.items;
@@ -233,7 +234,7 @@ impl Arguments {
         match setting {
             Setting::Form => self.written = written_named(value),
             Setting::Style => self.drawn = drawn_named(value),
-            Setting::Alignments => self.alignments = alignments_of(alloc, value.as_bytes())?,
+            Setting::Alignments => self.alignments = aligner_of(alloc, value)?,
             Setting::Width => self.width = length_of(value),
             Setting::Columns => self.columns = length_of(value),
             Setting::Separator => self.separator = separator_of(value),

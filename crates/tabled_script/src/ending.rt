@@ -10,7 +10,9 @@ ghost use Rattle.tabled_script.specs.InMemory.{said_by, state_in};
 ghost use Rattle.tabled_script.specs.Outcome.{Comes, ComesOfState};
 
 use crate::checked::run_checked;
+use crate::form::Form;
 use crate::inputs::lent_words;
+use crate::names::unknown_alignments_line;
 use crate::notes::Notes;
 use crate::outcome::Outcome;
 use crate::request::Request;
@@ -60,8 +62,26 @@ fn run_parsed<W: Write, E: Write>(
     ensures { ComesOfState request.now.form (ended (said_by script.entry)) (W.contents writer.old) (W.contents writer.new) result }
 {
     match state_at_end(alloc, request.checks_steps, lines, script, notes) {
-        Ok((records, spans)) => request.form.write(alloc, records, &spans, writer),
+        Ok((records, spans)) => {
+            tell_unaligned(alloc, &request.form, &records, notes);
+            request.form.write(alloc, records, &spans, writer)
+        }
         Err(_) => Outcome::OutOfMemory,
+    }
+}
+
+/// Tells the names that columns are aligned by, but that none of them has.
+fn tell_unaligned<E: Write>(
+    alloc: Global,
+    form: &Form,
+    records: &[Vec<LentText>],
+    notes: &mut Notes<'_, E>,
+) {
+    if let Some(alignments) = form.alignments() {
+        // Where memory runs out here, the table may yet be written.
+        if let Ok(Some(line)) = unknown_alignments_line(alloc, alignments, records) {
+            notes.tell(Ok(line));
+        }
     }
 }
 

@@ -4,6 +4,7 @@ ghost use Rattle.tabled_grid.specs.Grid.{IsEven, grid_of, map_items};
 ghost use Rattle.tabled_script.specs.InMemory.{state_in};
 ghost use Rattle.tabled_script.specs.Outcome.{ComesOfState};
 
+use crate::alignments::Alignments;
 use crate::csv_form::write_csv;
 use crate::html_form::{HtmlPage, write_html};
 use crate::json_form::write_json;
@@ -13,7 +14,7 @@ use crate::script_form::write_script;
 use std::alloc::Global;
 use std::io::Write;
 use tabled_csv::Separator;
-use tabled_draw::{Alignment, Style};
+use tabled_draw::Style;
 use tabled_grid::config::SpannedConfig;
 use tabled_json::{Layout, Values};
 use tabled_language::LentText;
@@ -25,14 +26,13 @@ use tabled_language::LentText;
 pub enum Form {
     /// A script that makes it: its shape, its rows and its merged cells.
     Script,
-    /// A picture of it in a style, with those of its merged cells that fit. Texts are aligned by columns: the last
-    /// alignment counts for all columns behind it, and without one they stand to the left.
-    Picture(Style, Vec<Alignment>),
+    /// A picture of it in a style, with those of its merged cells that fit, and with aligned texts.
+    Picture(Style, Alignments),
     /// A picture of at most n columns: where that is needed, the lines of texts are cut between words, those of the widest
     /// columns first, and where words have no room, in words, but never below the widest piece of a text.
-    NarrowPicture(usize, Style, Vec<Alignment>),
+    NarrowPicture(usize, Style, Alignments),
     /// Markdown, in which each row takes one line: texts are escaped, and of merged cells the first has the text.
-    Markdown(Vec<Alignment>),
+    Markdown(Alignments),
     /// The texts of its cells as CSV, those of hidden cells, too.
     Csv(Separator),
     /// Records as JSON, whose keys are the first row: the texts of the cells, those of hidden cells, too.
@@ -42,6 +42,17 @@ pub enum Form {
 }
 
 impl Form {
+    /// How the texts of columns are aligned, where that is said.
+    pub(crate) fn alignments(&self) -> Option<&Alignments> {
+        match self {
+            Form::Picture(_, alignments)
+            | Form::NarrowPicture(_, _, alignments)
+            | Form::Markdown(alignments) => Some(alignments),
+            Form::Html(page) => Some(&page.alignments),
+            Form::Script | Form::Csv(_) | Form::Json(_, _) => None,
+        }
+    }
+
     /// Writes a table, and flushes the writer. All memory is asked for before the first byte: refused, nothing
     /// is written. Where no picture is as narrow as is asked for, or two keys are equal, nothing is written, too.
     pub(crate) fn write<W: Write>(

@@ -4,10 +4,11 @@ ghost use Rattle.std.specs.Io.KnownBytes.{Appends};
 ghost use Rattle.std.specs.Prelude.{◌≡◌, IfOk, OnErr, map};
 ghost use Rattle.tabled_grid.specs.Grid.{IsEven, grid_of, map_items};
 ghost use Rattle.tabled_html.specs.Elements.{html};
-ghost use Rattle.tabled_script.specs.Html.{ShowsGrid, html_alignment, look_of};
+ghost use Rattle.tabled_script.specs.Html.{ShowsGrid, html_alignment, look_of, look_with};
 ghost use Rattle.tabled_script.specs.InMemory.{texts_in};
 ghost use Rattle.tabled_script.specs.Outcome.{IfWritten};
 
+use crate::alignments::Alignments;
 use std::alloc::{AllocError, Global};
 use std::io::{self, Write};
 use tabled_draw::Alignment;
@@ -23,8 +24,8 @@ pub struct HtmlPage {
     /// How many rows are its header.
     pub header: usize,
     pub caption: Option<String>,
-    /// By columns: the last one counts for all columns behind it, and without one nothing is said of how texts stand.
-    pub alignments: Vec<Alignment>,
+    /// Where they are listed, and none is, nothing is said of how texts stand.
+    pub alignments: Alignments,
     /// Whether it is a page of its own.
     pub is_whole: bool,
 }
@@ -40,11 +41,12 @@ pub(crate) fn write_html<W: Write>(
 ) -> Result<io::Result<()>, AllocError>
     requires { IsEven (grid_of (map_items records.now.items)) }
     ensures written { IfWritten result (
-        Appends (W.contents writer.old) (W.contents writer.new) (html (texts_in records.now.items) spans.now (look_of page.now))) }
+        Appends (W.contents writer.old) (W.contents writer.new) (html (texts_in records.now.items) spans.now (look_of page.now (texts_in records.now.items)))) }
     ensures shows { IfWritten result (ShowsGrid page.now (texts_in records.now.items) spans.now) }
     ensures refused { OnErr result (W.contents writer.new ≡ W.contents writer.old) }
 {
-    let alignments = html_alignments(alloc, &page.alignments)?;
+    let alignments = page.alignments.of_columns(alloc, records)?;
+    let alignments = html_alignments(alloc, &alignments)?;
     let look = look_with(page, &alignments);
     match write_with(alloc, writer, records, spans, &look) {
         Ok(()) => Ok(writer.flush()),
@@ -55,7 +57,7 @@ pub(crate) fn write_html<W: Write>(
 
 /// How a table is written, as it is asked for, with these alignments.
 fn look_with<'p>(page: &'p HtmlPage, alignments: &'p [tabled_html::Alignment]) -> Page<'p>
-    ensures { result ≡ record (look_of page.now) { alignments = alignments.now } }
+    ensures { result ≡ look_with page.now alignments.now }
 {
     let look = Page::new().header(page.header).alignments(alignments);
     let look = match &page.caption {

@@ -4,9 +4,11 @@ ghost use Rattle.std.specs.List.{find};
 ghost use Rattle.std.specs.Option.{option_map, unwrap_or};
 ghost use Rattle.std.specs.Prelude.{◌≡◌, ◌++◌, ◌&&◌, ◌==◌, [], IfErr, IfOk, None, length, map, not};
 ghost use Rattle.std.specs.String.{string_bytes};
+ghost use Rattle.tabled_script.specs.Aligners.{listed};
 ghost use Rattle.tabled_script.specs.Arguments.{is_set, named_files, step_of, words_of};
 ghost use Rattle.tabled_script.specs.Requests.{IsForm, IsUnmade, awaited, contradiction, deciding, drawn_of, files_of, format_of, goes_with, named_source, says_html, says_something, script_of, separator_of, settings_of_forms, to_separator_of, unread_files, values_of, writing_of, width_of, written_of};
 
+use crate::alignments::Alignments;
 use crate::arguments::{Arguments, Next, push_step};
 use crate::form::Form;
 use crate::html_form::HtmlPage;
@@ -15,7 +17,7 @@ use crate::request::{Format, Request, Source};
 use crate::setting::{Drawn, Kind, Setting, Written};
 use std::alloc::{AllocError, Global};
 use tabled_csv::{Dialect, Separator};
-use tabled_draw::{Alignment, Style};
+use tabled_draw::Style;
 use tabled_json::{Layout, Values};
 
 /// What the arguments ask for.
@@ -85,7 +87,7 @@ impl Arguments {
         } = self;
         push_step(&mut steps, step)?;
         let script = script_of(alloc, script, is_alone)?;
-        let alignments = listed(alloc, alignments);
+        let alignments = aligned(alloc, alignments);
         let form = form_of(
             written,
             look,
@@ -259,7 +261,7 @@ fn form_of(
     written: Written,
     look: Drawn,
     width: Option<usize>,
-    alignments: Vec<Alignment>,
+    alignments: Alignments,
     separator: Separator,
     values: Values,
     header: usize,
@@ -269,7 +271,7 @@ fn form_of(
       how = written;
       look = look;
       width = width;
-      alignments = alignments.items;
+      alignments = alignments;
       separator = separator;
       values = values;
       header = header;
@@ -301,13 +303,13 @@ fn form_of(
     }
 }
 
-/// A list, which is empty where there is none.
-fn listed(alloc: Global, alignments: Option<Vec<Alignment>>) -> Vec<Alignment>
-    ensures { result.items ≡ unwrap_or (option_map (λ list. list.items) alignments) [] }
+/// How columns are aligned: by no list where that isn't asked for.
+fn aligned(alloc: Global, alignments: Option<Alignments>) -> Alignments
+    ensures { result ≡ unwrap_or alignments (listed []) }
 {
     match alignments {
         Some(alignments) => alignments,
-        None => Vec::new(alloc),
+        None => Alignments::listed(Vec::new(alloc)),
     }
 }
 

@@ -1,6 +1,8 @@
 //! The script program: tables made and changed by the lines of a script.
 #![tactic(auto)]
 
+mod alignment_words;
+mod alignments;
 mod arguments;
 mod checked;
 mod csv_form;
@@ -36,6 +38,7 @@ mod told_words;
 mod watched;
 mod words;
 
+pub use alignments::Alignments;
 pub use arguments::Arguments;
 pub use form::Form;
 pub use help::{Telling, told_instead};

@@ -1,5 +1,6 @@
-//! The names of columns that a step goes by, where no column has them.
+//! The names of columns that steps and alignments go by, where no column has them.
 
+use crate::alignments::Alignments;
 use crate::told_words::ToldWords;
 use std::alloc::{AllocError, Global};
 use tabled_grid::records::CellText;
@@ -15,15 +16,37 @@ pub(crate) fn unknown_names_text(
     words: &[String],
     records: &[Vec<LentText>],
 ) -> Result<Option<String>, AllocError> {
+    let mut names = Vec::new(alloc);
+    push_names(&mut names, step, words)?;
+    unknown_text(alloc, &names, records)
+}
+
+/// That columns are aligned by names that none of them has, in a line with those that there are.
+pub(crate) fn unknown_alignments_line(
+    alloc: Global,
+    alignments: &Alignments,
+    records: &[Vec<LentText>],
+) -> Result<Option<String>, AllocError> {
+    let names = alignments.names(alloc)?;
+    match unknown_text(alloc, &names, records)? {
+        Some(text) => Ok(Some(format!(in alloc; "tabled_script: --align: {text}\n")?)),
+        None => Ok(None),
+    }
+}
+
+/// That no column has some of these names, and those that there are; nothing where each is one.
+fn unknown_text(
+    alloc: Global,
+    names: &[&str],
+    records: &[Vec<LentText>],
+) -> Result<Option<String>, AllocError> {
     let first_row = match records.first() {
         Some(row) => row.as_slice(),
         None => &[],
     };
-    let mut names = Vec::new(alloc);
-    push_names(&mut names, step, words)?;
     let mut unknown = ToldWords::new(alloc);
     for name in names {
-        if !first_row.iter().any(|text| text.text() == name) {
+        if !first_row.iter().any(|text| text.text() == *name) {
             unknown.push(alloc, name.as_bytes())?;
         }
     }

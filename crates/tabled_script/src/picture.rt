@@ -10,6 +10,7 @@ ghost use Rattle.tabled_script.specs.InMemory.{texts_in};
 ghost use Rattle.tabled_script.specs.Narrow.{WritesNarrowPicture, at_widest_pieces, narrowed};
 ghost use Rattle.tabled_script.specs.Outcome.{IfDrawn, IfUndrawn, IfWritten};
 
+use crate::alignments::Alignments;
 use crate::narrow::{at_widest_pieces, cut_to};
 use std::alloc::{AllocError, Global};
 use std::io::{self, Write};
@@ -26,15 +27,16 @@ pub(crate) fn write_picture<W: Write>(
     records: Vec<Vec<LentText>>,
     spans: &SpannedConfig,
     style: Style,
-    alignments: &[Alignment],
+    alignments: &Alignments,
     writer: &mut W,
 ) -> Result<io::Result<()>, AllocError>
     requires { IsEven (grid_of (map_items records.items)) }
     ensures written { IfWritten result (
-        Appends (W.contents writer.old) (W.contents writer.new) (drawn_with style alignments.now (texts_in records.entry.items) spans.now)) }
+        Appends (W.contents writer.old) (W.contents writer.new) (drawn_with style (alignments.now (texts_in records.entry.items)) (texts_in records.entry.items) spans.now)) }
     ensures refused { OnErr result (W.contents writer.new ≡ W.contents writer.old) }
 {
-    let look = Look::new(style).align(alignments);
+    let alignments = alignments.of_columns(alloc, &records)?;
+    let look = Look::new(style).align(&alignments);
     let drawing = Drawing::with_look(alloc, &records, spans, &look)?;
     Ok(write_drawing(drawing, writer))
 }
@@ -62,12 +64,12 @@ impl TooNarrow {
 
 /// Writes a picture of a table (`r x c`) of at most n columns, in which texts are wrapped where that is needed. Where no
 /// picture is that narrow, nothing is written.
-pub(crate) fn write_narrow_picture<'a, R, W>(
+pub(crate) fn write_narrow_picture<R, W>(
     alloc: Global,
-    records: &'a R,
+    records: &R,
     spans: &SpannedConfig,
     style: Style,
-    alignments: &'a [Alignment],
+    alignments: &Alignments,
     width: usize,
     writer: &mut W,
 ) -> Result<Result<io::Result<()>, TooNarrow>, AllocError>
@@ -77,19 +79,20 @@ where
     W: Write,
     requires { R.is_well_formed records.now }
     ensures written { IfDrawn result (
-        WritesNarrowPicture width style alignments.now (map_grid R.Cell.text_of (R.grid records.now)) spans.now (W.contents writer.old) (W.contents writer.new)) }
+        WritesNarrowPicture width style (alignments.now (map_grid R.Cell.text_of (R.grid records.now))) (map_grid R.Cell.text_of (R.grid records.now)) spans.now (W.contents writer.old) (W.contents writer.new)) }
     ensures undrawn { IfUndrawn result (λ narrow. narrowed width style spans.now (map_grid R.Cell.text_of (R.grid records.now)) ≡ None) }
     ensures takes { IfUndrawn result (λ narrow. narrow.takes ≡ picture_width style (at_widest_pieces (map_grid R.Cell.text_of (R.grid records.now))) spans.now) }
     ensures left { IfUndrawn result (λ narrow. W.contents writer.new ≡ W.contents writer.old) }
     ensures refused { OnErr result (W.contents writer.new ≡ W.contents writer.old) }
 {
     lines_take_the_width_of_their_picture();
-    let (whole, columns) = laid_out(alloc, records, spans, style, alignments)?;
+    let alignments = alignments.of_columns(alloc, records)?;
+    let (whole, columns) = laid_out(alloc, records, spans, style, &alignments)?;
     if columns <= width {
         return Ok(Ok(write_drawing(whole, writer)));
     }
     let pieces = at_widest_pieces(alloc, records)?;
-    let (least, takes) = laid_out(alloc, &pieces, spans, style, alignments)?;
+    let (least, takes) = laid_out(alloc, &pieces, spans, style, &alignments)?;
     if width < takes {
         return Ok(Err(TooNarrow {
             asked: width,
@@ -97,7 +100,7 @@ where
         }));
     }
     let cut = cut_to(alloc, records, &pieces, spans, &style, width)?;
-    let (drawing, columns) = laid_out(alloc, &cut, spans, style, alignments)?;
+    let (drawing, columns) = laid_out(alloc, &cut, spans, style, &alignments)?;
     if columns <= width {
         return Ok(Ok(write_drawing(drawing, writer)));
     }
@@ -129,15 +132,16 @@ pub(crate) fn write_markdown<W: Write>(
     alloc: Global,
     records: Vec<Vec<LentText>>,
     spans: &SpannedConfig,
-    alignments: &[Alignment],
+    alignments: &Alignments,
     writer: &mut W,
 ) -> Result<io::Result<()>, AllocError>
     requires { IsEven (grid_of (map_items records.items)) }
     ensures written { IfWritten result (
-        Appends (W.contents writer.old) (W.contents writer.new) (markdown alignments.now (texts_in records.entry.items) spans.now)) }
+        Appends (W.contents writer.old) (W.contents writer.new) (markdown (alignments.now (texts_in records.entry.items)) (texts_in records.entry.items) spans.now)) }
     ensures refused { OnErr result (W.contents writer.new ≡ W.contents writer.old) }
 {
-    let markdown = Markdown::new(alloc, &records, spans, alignments)?;
+    let alignments = alignments.of_columns(alloc, &records)?;
+    let markdown = Markdown::new(alloc, &records, spans, &alignments)?;
     Ok(write_lines(markdown, writer))
 }
 

@@ -12,6 +12,7 @@ ghost use Rattle.tabled_language.specs.Parsing.{cell_texts};
 ghost use Rattle.tabled_language.specs.Script.{Script as Meaning, parse, parse_between};
 ghost use Rattle.tabled_language.specs.declared.fault.Fault.{Fault};
 
+use crate::alignments::Alignments;
 use crate::ending::run_between;
 use crate::form::Form;
 use crate::inputs::rows_of_sources;
@@ -65,7 +66,7 @@ pub fn draw_script<R: Read, W: Write>(alloc: Global, reader: &mut R, writer: &mu
         (fault : ℕ × Fault) × (parse input ≡ Err fault) × Appends (W.contents writer.old) (W.contents writer.new) (fault_line fault)) }
     ensures memory { result ≡ out_of_memory → Appends (W.contents writer.old) (W.contents writer.new) memory_line }
 {
-    let form = Form::Picture(Style::ascii(), Vec::new(alloc));
+    let form = Form::Picture(Style::ascii(), Alignments::listed(Vec::new(alloc)));
     run_to_form(alloc, form, reader, writer)
 }
 

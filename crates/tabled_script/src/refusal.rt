@@ -253,7 +253,9 @@ fn value_text(alloc: Global, setting: Setting, value: &str) -> Result<String, Al
         Setting::Style => names_text(alloc, "style", value, &Style::NAMES),
         Setting::Form => names_text(alloc, "form", value, &FORMS),
         Setting::Alignments => {
-            format!(in alloc; "columns are aligned by letters l, c and r, not by {value}")
+            format!(in alloc;
+                "columns are aligned by letters, as llr, by auto, or by names, as Price=r,Region=c, not by {value}"
+            )
         }
         Setting::Width | Setting::Columns => {
             format!(in alloc; "{value} is no number of columns")

@@ -1,13 +1,12 @@
 //! The settings of the program, each by an option, and what their values mean.
 
 ghost use Rattle.std.specs.Option.{option_map};
-ghost use Rattle.std.specs.Prelude.{◌≡◌, IfOk};
-ghost use Rattle.tabled_script.specs.Settings.{alignment_of, alignments_of, drawn_named, forms, name_of, named_in, options, read_by, separator_of, takes_value};
+ghost use Rattle.std.specs.Prelude.{◌≡◌};
+ghost use Rattle.tabled_script.specs.Settings.{drawn_named, forms, name_of, named_in, options, read_by, separator_of, takes_value};
 ghost use Rattle.tabled_script.specs.declared.setting.Setting.TheVariants as setting;
 
-use std::alloc::{AllocError, Global};
 use tabled_csv::Separator;
-use tabled_draw::{Alignment, Style};
+use tabled_draw::Style;
 
 /// What an option sets: most to the value that stands behind it.
 ///
@@ -20,7 +19,7 @@ pub enum Setting {
     Picture,
     /// The style of a picture.
     Style,
-    /// How the texts of a picture are aligned.
+    /// How the texts of columns are aligned.
     Alignments,
     /// How many columns a picture has at most.
     Width,
@@ -195,34 +194,6 @@ pub(crate) fn drawn_named(name: &str) -> Option<Drawn>
     }
     let style = Style::named(name)?;
     Some(Drawn::Style(style))
-}
-
-fn alignment_of(letter: u8) -> Option<Alignment>
-    ensures { result ≡ alignment_of letter }
-{
-    match letter {
-        b'l' => Some(Alignment::left()),
-        b'c' => Some(Alignment::center()),
-        b'r' => Some(Alignment::right()),
-        _ => None,
-    }
-}
-
-/// The alignments of letters, if each has one.
-pub(crate) fn alignments_of(
-    alloc: Global,
-    letters: &[u8],
-) -> Result<Option<Vec<Alignment>>, AllocError>
-    ensures { IfOk result (λ alignments. option_map (λ list. list.items) alignments ≡ alignments_of letters.now) }
-{
-    let mut alignments = Vec::new(alloc);
-    for letter in letters {
-        let Some(alignment) = alignment_of(*letter) else {
-            return Ok(None);
-        };
-        alignments.push(alignment)?;
-    }
-    Ok(Some(alignments))
 }
 
 /// The separator of a name, if it has one.

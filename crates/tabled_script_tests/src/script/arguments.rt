@@ -349,6 +349,47 @@ fn arguments_ask_for_steps_and_forms(rt: HostRuntime) -> Result<(), Fail> {
             "shape\t2\t1\nrow\th\nrow\ta\n",
             "tabled_script: step 2: no column is named 'a': the first row has 'h'\n",
         ),
+        // Columns are aligned by what stands in them, by names, or by both: the last rule that says something counts.
+        (
+            "--csv|f|--align|auto",
+            "a,b,c,d,e\n1,-.5,,x,\n,1.,2 ,3,\n",
+            "",
+            0,
+            "+---+-----+----+---+---+\n| a |   b | c  | d | e |\n+---+-----+----+---+---+\n| 1 | -.5 |    | x |   |\n+---+-----+----+---+---+\n|   |  1. | 2  | 3 |   |\n+---+-----+----+---+---+\n",
+            "",
+        ),
+        (
+            "--csv|f|--width|40|--align|auto,n=c,a=b=r,n=r",
+            "nn,a=b,n\n1,x,2 2\n",
+            "",
+            0,
+            "+----+-----+-----+\n| nn | a=b |   n |\n+----+-----+-----+\n|  1 |   x | 2 2 |\n+----+-----+-----+\n",
+            "",
+        ),
+        (
+            "--csv|f|--style|markdown|--align|n=c,auto,x=r",
+            "n,m\n123,4\n",
+            "",
+            0,
+            "|   n |   m |\n|----:|----:|\n| 123 |   4 |\n",
+            "tabled_script: --align: no column is named 'x': the first row has 'n' 'm'\n",
+        ),
+        (
+            "--csv|f|--to|html|--align|auto|--check",
+            "n,m\n,a\n1,\n",
+            "",
+            0,
+            "<table>\n<tbody>\n<tr><td style=\"text-align: right\">n</td><td style=\"text-align: left\">m</td></tr>\n<tr><td style=\"text-align: right\"></td><td style=\"text-align: left\">a</td></tr>\n<tr><td style=\"text-align: right\">1</td><td style=\"text-align: left\"></td></tr>\n</tbody>\n</table>\n",
+            "",
+        ),
+        (
+            "--align|auto,=r",
+            "",
+            "",
+            0,
+            "",
+            "tabled_script: --align: no column is named '': there is none\n",
+        ),
         // Names that no column has, each kind of step that may go by one, and words that are none.
         (
             "--csv|f|--to|csv|keep|columns|a|b|0|-1|1:|=a|-|3:b|then|keep|rows|0|q=|-1:|b>1|r!=x|then|sort|rows|1|e|number|then|merge|vertical|inverse|name|d|then|dup|name|c|skip|0|name|f|then|remove|named|g|then|sort|rows|1|0|text|then|keep|rows|:|a<9",
@@ -479,8 +520,24 @@ fn what_cannot_be_asked_is_refused(rt: HostRuntime) -> Result<(), Fail> {
             "there is no style Modern: ascii modern rounded sharp extended psql markdown re_structured_text dots ascii_rounded blank empty",
         ),
         (
+            "--align=auto,lr",
+            "columns are aligned by letters, as llr, by auto, or by names, as Price=r,Region=c, not by auto,lr",
+        ),
+        (
+            "--align|a=x",
+            "columns are aligned by letters, as llr, by auto, or by names, as Price=r,Region=c, not by a=x",
+        ),
+        (
+            "--align|a=lr",
+            "columns are aligned by letters, as llr, by auto, or by names, as Price=r,Region=c, not by a=lr",
+        ),
+        (
+            "--to|csv|--align|auto",
+            "--to and --align contradict each other",
+        ),
+        (
             "--align=lx",
-            "columns are aligned by letters l, c and r, not by lx",
+            "columns are aligned by letters, as llr, by auto, or by names, as Price=r,Region=c, not by lx",
         ),
         (
             "--separator|\"",
