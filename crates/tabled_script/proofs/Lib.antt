@@ -6,6 +6,7 @@ pub mod Levels
 pub mod Narrowed
 pub mod Outcomes
 pub mod OutputLines
+pub mod Ranges
 pub mod Rooms
 pub mod Tables
 pub mod Taken

@@ -1,11 +1,16 @@
 -- What comes of a script: its table written, or why it isn't.
-use Rattle.std.specs.Prelude.{◌≡◌, ◌⊎◌, ℕ, Bool, if◌then◌else◌, IfErr, IfOk, OnOk, List, Option, Result, Ok, Err}
+use Rattle.std.specs.Prelude.{◌≡◌, ◌⊎◌, ℕ, Bool, if◌then◌else◌, List, Option, None, Result, Ok, Err}
 use Rattle.std.specs.Io.KnownBytes.{Appends}
+use Rattle.tabled_draw.specs.Width.{picture_width}
+use Rattle.tabled_draw.specs.declared.style.Style.{Style}
+use Rattle.tabled_grid.specs.Grid.{Grid}
+use Rattle.tabled_grid.specs.Spans.{SpanMap}
 use Rattle.tabled_language.specs.Parsing.{cell_texts}
 use Rattle.tabled_language.specs.Script.{Script, parse, parse_between}
 use Rattle.tabled_language.specs.declared.fault.Fault.{Fault}
 use Rattle.tabled_script.specs.Answer.{IsUnwritable, ShowsState, ended, fault_line, memory_line}
 use Rattle.tabled_script.specs.Inputs.{HasFaulty, HasTable, HeadsDiffer}
+use Rattle.tabled_script.specs.Narrow.{at_widest_pieces, narrowed}
 use Rattle.tabled_script.specs.Status.{done, failed, faulty, noted, out_of_memory}
 use Rattle.tabled_script.specs.declared.form.Form.{Form}
 use Rattle.tabled_script.specs.declared.inputs.JoinError.TheVariants as join_error
@@ -13,47 +18,30 @@ use Rattle.tabled_script.specs.declared.inputs.RowsError.TheVariants as rows_err
 use Rattle.tabled_script.specs.declared.inputs.SourcesError.{SourcesError}
 use Rattle.tabled_script.specs.declared.inputs.SourcesError.TheVariants.{Unread, Unjoined}
 use Rattle.tabled_script.specs.declared.json_form.EqualKeys.{EqualKeys as Keys}
-use Rattle.tabled_script.specs.declared.outcome.Outcome.{Outcome}
-use Rattle.tabled_script.specs.declared.outcome.Outcome.TheVariants.{Written, Faulty, TooNarrow, EqualKeys, OutOfMemory, Failed}
+use Rattle.tabled_script.specs.declared.outcome.Unwritten.{Unwritten}
+use Rattle.tabled_script.specs.declared.outcome.Unwritten.TheVariants.{Faulty, TooNarrow, EqualKeys, OutOfMemory, Failed}
 use Rattle.tabled_script.specs.declared.picture.TooNarrow.{TooNarrow as Narrow}
 use Rattle.tabled_script.specs.declared.request.Request.{Request}
 use Rattle.tabled_steps.specs.States.{State}
 
--- P holds if memory was not refused and no write failed
-abbrev pub IfWritten : {U E A : Type 0} → Result (Result U E) A → Type 0 → Type 0
-IfWritten result P = IfOk result (λ written. OnOk written P)
+-- why a table wasn't written, with what is known where no picture is as narrow as is asked for, and where two keys are equal
+abbrev pub Fails : (Narrow → Type 0) → (Keys → Type 0) → Option (List ℕ) → Option (List ℕ) → Unwritten → Type 0
+Fails of_narrow of_keys old new (Faulty line fault) = ⊥
+Fails of_narrow of_keys old new (TooNarrow narrow) = of_narrow narrow × (new ≡ old)
+Fails of_narrow of_keys old new (EqualKeys keys) = of_keys keys × (new ≡ old)
+Fails of_narrow of_keys old new OutOfMemory = new ≡ old
+Fails of_narrow of_keys old new Failed = Unit {0}
 
--- P holds if memory was not refused, the table can be written so, and no write failed
-abbrev pub IfDrawn : {U E D A : Type 0} → Result (Result (Result U E) D) A → Type 0 → Type 0
-IfDrawn result P = IfOk result (λ drawn. IfOk drawn (λ written. OnOk written P))
+-- the same where any table can be written so
+abbrev pub OnlyFails : Option (List ℕ) → Option (List ℕ) → Unwritten → Type 0
+OnlyFails = Fails (λ _. ⊥) (λ _. ⊥)
 
--- P holds of why the table can't be written so, if memory was not refused and it can't
-abbrev pub IfUndrawn : {T D A : Type 0} → Result (Result T D) A → (D → Type 0) → Type 0
-IfUndrawn result P = IfOk result (λ drawn. IfErr drawn P)
+-- no picture of a table is as narrow as is asked for: it takes so many columns
+abbrev pub IsTooNarrow : ℕ → Style → SpanMap → Grid (List ℕ) → Narrow → Type 0
+IsTooNarrow n style m g narrow = (narrowed n style m g ≡ None) × (narrow.takes ≡ picture_width style (at_widest_pieces g) m)
 
--- what comes of writing
-abbrev pub outcome_of_writing : {U E A : Type 0} → Result (Result U E) A → Outcome
-outcome_of_writing (Ok (Ok u)) = Written
-outcome_of_writing (Ok (Err e)) = Failed
-outcome_of_writing (Err e) = OutOfMemory
-
--- what comes of drawing
-abbrev pub outcome_of_drawing : {U E A : Type 0} → Result (Result (Result U E) Narrow) A → Outcome
-outcome_of_drawing (Ok (Ok (Ok u))) = Written
-outcome_of_drawing (Ok (Ok (Err e))) = Failed
-outcome_of_drawing (Ok (Err narrow)) = TooNarrow narrow
-outcome_of_drawing (Err e) = OutOfMemory
-
--- what comes of writing records
-abbrev pub outcome_of_records : {U E A : Type 0} → Result (Result (Result U E) Keys) A → Outcome
-outcome_of_records (Ok (Ok (Ok u))) = Written
-outcome_of_records (Ok (Ok (Err e))) = Failed
-outcome_of_records (Ok (Err keys)) = EqualKeys keys
-outcome_of_records (Err e) = OutOfMemory
-
--- the status of an outcome
-abbrev pub status_of : Outcome → ℕ
-status_of Written = done
+-- the status of why a table wasn't written
+abbrev pub status_of : Unwritten → ℕ
 status_of (Faulty line fault) = faulty
 status_of (TooNarrow narrow) = faulty
 status_of (EqualKeys keys) = faulty
@@ -61,9 +49,9 @@ status_of OutOfMemory = out_of_memory
 status_of Failed = failed
 
 -- the status of the outcome of an answer, by whether something was told of what was checked
-abbrev pub status_with_notes : Outcome → Bool → ℕ
-status_with_notes Written has_notes = if has_notes then noted else done
-status_with_notes other has_notes = status_of other
+abbrev pub status_with_notes : {U : Type 0} → Result U Unwritten → Bool → ℕ
+status_with_notes (Ok u) has_notes = if has_notes then noted else done
+status_with_notes (Err why) has_notes = status_of why
 
 -- the status of why files have no table
 abbrev pub status_of_error : SourcesError → ℕ
@@ -73,22 +61,18 @@ status_of_error (Unjoined index (join_error.Differs head first file)) = faulty
 status_of_error (Unjoined index join_error.OutOfMemory) = out_of_memory
 
 -- what an outcome says of a state and what a writer had and has
-abbrev pub ComesOfState : Form → State → Option (List ℕ) → Option (List ℕ) → Outcome → Type 0
-ComesOfState how s old new Written = ShowsState how s old new
-ComesOfState how s old new (Faulty line fault) = ⊥
-ComesOfState how s old new (TooNarrow narrow) = IsUnwritable how s × (new ≡ old)
-ComesOfState how s old new (EqualKeys keys) = IsUnwritable how s × (new ≡ old)
-ComesOfState how s old new OutOfMemory = new ≡ old
-ComesOfState how s old new Failed = Unit {0}
+abbrev pub ComesOfState : {U : Type 0} → Form → State → Option (List ℕ) → Option (List ℕ) → Result U Unwritten → Type 0
+ComesOfState how s old new (Ok u) = ShowsState how s old new
+ComesOfState how s old new (Err why) = Fails (λ _. IsUnwritable how s) (λ _. IsUnwritable how s) old new why
 
 -- what an outcome says of what was read and what a writer had and has
-abbrev pub Comes : Form → Result Script (ℕ × Fault) → Option (List ℕ) → Option (List ℕ) → Outcome → Type 0
-Comes how read old new Written = (script : Script) × (read ≡ Ok script) × ShowsState how (ended script) old new
-Comes how read old new (Faulty line fault) = (read ≡ Err (line, fault)) × (new ≡ old)
-Comes how read old new (TooNarrow narrow) = (script : Script) × (read ≡ Ok script) × IsUnwritable how (ended script) × (new ≡ old)
-Comes how read old new (EqualKeys keys) = (script : Script) × (read ≡ Ok script) × IsUnwritable how (ended script) × (new ≡ old)
-Comes how read old new OutOfMemory = new ≡ old
-Comes how read old new Failed = Unit {0}
+abbrev pub Comes : {U : Type 0} → Form → Result Script (ℕ × Fault) → Option (List ℕ) → Option (List ℕ) → Result U Unwritten → Type 0
+Comes how read old new (Ok u) = (script : Script) × (read ≡ Ok script) × ShowsState how (ended script) old new
+Comes how read old new (Err (Faulty line fault)) = (read ≡ Err (line, fault)) × (new ≡ old)
+Comes how read old new (Err (TooNarrow narrow)) = (script : Script) × (read ≡ Ok script) × IsUnwritable how (ended script) × (new ≡ old)
+Comes how read old new (Err (EqualKeys keys)) = (script : Script) × (read ≡ Ok script) × IsUnwritable how (ended script) × (new ≡ old)
+Comes how read old new (Err OutOfMemory) = new ≡ old
+Comes how read old new (Err Failed) = Unit {0}
 
 -- what was read gives no table: a line is faulty, or the one that it makes can't be written so
 abbrev pub GivesNoTable : Form → Result Script (ℕ × Fault) → Type 0
@@ -115,10 +99,10 @@ abbrev pub EndsBy : List ℕ → ℕ → ℕ → Option (List ℕ) → Option (L
 EndsBy bytes own status old new = (status ≡ failed) ⊎ ((status ≡ own) × Appends old new bytes)
 
 -- how a run ends by its outcome: with the line of its fault, or that memory ran out, or with no more bytes
-abbrev pub Ends : Outcome → ℕ → Option (List ℕ) → Option (List ℕ) → Type 0
-Ends Written status old new = (status ≡ done) × (new ≡ old)
-Ends (Faulty line fault) status old new = EndsBy (fault_line (line, fault)) faulty status old new ⊎ EndsBy memory_line out_of_memory status old new
-Ends (TooNarrow narrow) status old new = (status ≡ faulty) × (new ≡ old)
-Ends (EqualKeys keys) status old new = (status ≡ faulty) × (new ≡ old)
-Ends OutOfMemory status old new = EndsBy memory_line out_of_memory status old new
-Ends Failed status old new = status ≡ failed
+abbrev pub Ends : {U : Type 0} → Result U Unwritten → ℕ → Option (List ℕ) → Option (List ℕ) → Type 0
+Ends (Ok u) status old new = (status ≡ done) × (new ≡ old)
+Ends (Err (Faulty line fault)) status old new = EndsBy (fault_line (line, fault)) faulty status old new ⊎ EndsBy memory_line out_of_memory status old new
+Ends (Err (TooNarrow narrow)) status old new = (status ≡ faulty) × (new ≡ old)
+Ends (Err (EqualKeys keys)) status old new = (status ≡ faulty) × (new ≡ old)
+Ends (Err OutOfMemory) status old new = EndsBy memory_line out_of_memory status old new
+Ends (Err Failed) status old new = status ≡ failed

@@ -1,7 +1,6 @@
 //! How the texts of columns are aligned: by their places, or by what stands in them.
 
 ghost use Rattle.std.specs.Prelude.{◌≡◌, map};
-ghost use Rattle.tabled_grid.specs.Entity.{place};
 ghost use Rattle.tabled_grid.specs.Grid.{map_grid};
 ghost use Rattle.tabled_script.specs.Aligners.{alignment_by, has_below, is_of};
 ghost use Rattle.tabled_script.specs.Aligned.{rule_in};
@@ -161,7 +160,7 @@ impl Rule {
                 None
             }
             Rule::Name(name, alignment) => {
-                if text_at(records, 0, column) == name.as_str() {
+                if text_in(records, Position { row: 0, col: column }) == name.as_str() {
                     return Some(*alignment);
                 }
                 None
@@ -179,25 +178,28 @@ where
     ensures { result ≡ has_below (is_of kind) (map_grid R.Cell.text_of (R.grid records.now)) column }
 {
     for row in 1..records.count_rows() {
-        if kind.is_that_of(text_at(records, row, column)) {
+        if kind.is_that_of(text_in(records, Position { row, col: column })) {
             return true;
         }
     }
     false
 }
 
-/// The text at a place, an empty one outside.
-fn text_at<R>(records: &R, row: usize, column: usize) -> &str
+/// The text at a place, an empty one outside the table.
+fn text_in<R>(records: &R, pos: Position) -> &str
 where
     R: Records + ExactRecords + PeekableRecords,
     R::Cell: CellText,
     requires { R.is_well_formed records.now }
-    ensures { result.now ≡ text_at (map_grid R.Cell.text_of (R.grid records.now)) (place row column) }
+    ensures { result.now ≡ text_at (map_grid R.Cell.text_of (R.grid records.now)) pos }
 {
-    if row < records.count_rows() && column < records.count_columns() {
-        return records.get_text(Position::new(row, column));
+    if pos.row >= records.count_rows() {
+        return "";
     }
-    ""
+    if pos.col >= records.count_columns() {
+        return "";
+    }
+    records.get_text(pos)
 }
 
 impl TextKind {

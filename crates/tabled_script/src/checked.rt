@@ -133,7 +133,7 @@ fn printed(
     requires { IsEven (grid_of (map_items records.now.items)) }
 {
     let mut lines = Vec::new(alloc);
-    match write_script(alloc, records, spans, &mut lines)? {
+    match write_script(alloc, records, spans, &mut lines) {
         Ok(()) => Ok(lines),
         Err(_) => Err(AllocError),
     }

@@ -1,19 +1,20 @@
 //! A table as CSV, and the rows of CSV.
 
 ghost use Rattle.std.specs.Io.KnownBytes.{Appends};
-ghost use Rattle.std.specs.Prelude.{◌≡◌, MatchResult, OnErr};
+ghost use Rattle.std.specs.Prelude.{IfErr, MatchResult, OnOk};
 ghost use Rattle.tabled_csv.specs.Grammar.{IsCsv};
 ghost use Rattle.tabled_csv.specs.Writing.{csv_of};
 ghost use Rattle.tabled_grid.specs.Grid.{IsEven, grid_of, map_items};
 ghost use Rattle.tabled_language.specs.Lent.{texts_in_records};
 ghost use Rattle.tabled_script.specs.InMemory.{texts_in};
 ghost use Rattle.tabled_script.specs.Inputs.{NoRowsIn};
-ghost use Rattle.tabled_script.specs.Outcome.{IfWritten};
+ghost use Rattle.tabled_script.specs.Outcome.{OnlyFails};
 ghost use Rattle.tabled_script.specs.declared.request.Format.TheVariants.{Csv};
 
 use crate::inputs::{RowsError, SourceFault};
-use std::alloc::{AllocError, Global};
-use std::io::{self, Write};
+use crate::outcome::{Outcome, Unwritten};
+use std::alloc::Global;
+use std::io::Write;
 use tabled_csv::{Dialect, ReadError, Separator, Spare, WriteError, read_with, write_records};
 use tabled_language::LentText;
 
@@ -24,15 +25,15 @@ pub(crate) fn write_csv<W: Write>(
     records: &Vec<Vec<LentText>>,
     separator: Separator,
     writer: &mut W,
-) -> Result<io::Result<()>, AllocError>
+) -> Outcome
     requires { IsEven (grid_of (map_items records.now.items)) }
-    ensures written { IfWritten result (Appends (W.contents writer.old) (W.contents writer.new) (csv_of separator (texts_in records.now.items).cells)) }
-    ensures refused { OnErr result (W.contents writer.new ≡ W.contents writer.old) }
+    ensures written { OnOk result (Appends (W.contents writer.old) (W.contents writer.new) (csv_of separator (texts_in records.now.items).cells)) }
+    ensures unwritten { IfErr result (OnlyFails (W.contents writer.old) (W.contents writer.new)) }
 {
     match write_records(alloc, writer, separator, records) {
-        Ok(()) => Ok(writer.flush()),
-        Err(WriteError::OutOfMemory) => Err(AllocError),
-        Err(WriteError::Failed(error)) => Ok(Err(error)),
+        Ok(()) => Ok(writer.flush()?),
+        Err(WriteError::OutOfMemory) => Err(Unwritten::OutOfMemory),
+        Err(WriteError::Failed(_)) => Err(Unwritten::Failed),
     }
 }
 

@@ -14,7 +14,7 @@ use crate::form::Form;
 use crate::inputs::lent_words;
 use crate::names::unknown_alignments_line;
 use crate::notes::Notes;
-use crate::outcome::Outcome;
+use crate::outcome::{Outcome, Unwritten};
 use crate::request::Request;
 use crate::telling::Lines;
 use std::alloc::{AllocError, Global};
@@ -40,13 +40,11 @@ pub(crate) fn run_between<W: Write, E: Write>(
         script,
         steps: &request.steps,
     };
-    let Ok(words) = lent_words(alloc, &request.steps) else {
-        return Outcome::OutOfMemory;
-    };
+    let words = lent_words(alloc, &request.steps)?;
     match parse_between(alloc, rows, script, words) {
         Ok(script) => run_parsed(alloc, request, lines, script, writer, notes),
-        Err(ParseError::Faulty { line, fault }) => Outcome::Faulty(line, fault),
-        Err(ParseError::OutOfMemory) => Outcome::OutOfMemory,
+        Err(ParseError::Faulty { line, fault }) => Err(Unwritten::Faulty(line, fault)),
+        Err(ParseError::OutOfMemory) => Err(Unwritten::OutOfMemory),
     }
 }
 
@@ -61,13 +59,9 @@ fn run_parsed<W: Write, E: Write>(
 ) -> Outcome
     ensures { ComesOfState request.now.form (ended (said_by script.entry)) (W.contents writer.old) (W.contents writer.new) result }
 {
-    match state_at_end(alloc, request.checks_steps, lines, script, notes) {
-        Ok((records, spans)) => {
-            tell_unaligned(alloc, &request.form, &records, notes);
-            request.form.write(alloc, records, &spans, writer)
-        }
-        Err(_) => Outcome::OutOfMemory,
-    }
+    let (records, spans) = state_at_end(alloc, request.checks_steps, lines, script, notes)?;
+    tell_unaligned(alloc, &request.form, &records, notes);
+    request.form.write(alloc, records, &spans, writer)
 }
 
 /// Tells the names that columns are aligned by, but that none of them has.

@@ -66,25 +66,22 @@ impl Form {
         ensures { ComesOfState self.now (state_in records.entry.items spans.now) (W.contents writer.old) (W.contents writer.new) result }
     {
         match self {
-            Form::Script => Outcome::of_writing(write_script(alloc, &records, spans, writer)),
-            Form::Picture(style, alignments) => Outcome::of_writing(write_picture(
-                alloc, records, spans, *style, alignments, writer,
-            )),
-            Form::NarrowPicture(width, style, alignments) => Outcome::of_drawing(
-                write_narrow_picture(alloc, &records, spans, *style, alignments, *width, writer),
-            ),
-            Form::Markdown(alignments) => Outcome::of_writing(write_markdown(
-                alloc, records, spans, alignments, writer,
-            )),
-            Form::Csv(separator) => {
-                Outcome::of_writing(write_csv(alloc, &records, *separator, writer))
+            Form::Script => write_script(alloc, &records, spans, writer),
+            Form::Picture(style, alignments) => {
+                let aligned = alignments.of_columns(alloc, &records)?;
+                write_picture(alloc, records, spans, *style, &aligned, writer)
             }
-            Form::Json(layout, values) => {
-                Outcome::of_records(write_json(alloc, &records, *layout, *values, writer))
+            Form::NarrowPicture(width, style, alignments) => {
+                let aligned = alignments.of_columns(alloc, &records)?;
+                write_narrow_picture(alloc, &records, spans, *style, &aligned, *width, writer)
             }
-            Form::Html(page) => {
-                Outcome::of_writing(write_html(alloc, &records, spans, page, writer))
+            Form::Markdown(alignments) => {
+                let aligned = alignments.of_columns(alloc, &records)?;
+                write_markdown(alloc, records, spans, &aligned, writer)
             }
+            Form::Csv(separator) => write_csv(alloc, &records, *separator, writer),
+            Form::Json(layout, values) => write_json(alloc, &records, *layout, *values, writer),
+            Form::Html(page) => write_html(alloc, &records, spans, page, writer),
         }
     }
 }

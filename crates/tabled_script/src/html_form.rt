@@ -1,16 +1,17 @@
 //! A table as HTML.
 
 ghost use Rattle.std.specs.Io.KnownBytes.{Appends};
-ghost use Rattle.std.specs.Prelude.{◌≡◌, IfOk, OnErr, map};
+ghost use Rattle.std.specs.Prelude.{◌≡◌, IfErr, IfOk, OnOk, map};
 ghost use Rattle.tabled_grid.specs.Grid.{IsEven, grid_of, map_items};
 ghost use Rattle.tabled_html.specs.Elements.{html};
 ghost use Rattle.tabled_script.specs.Html.{ShowsGrid, html_alignment, look_of, look_with};
 ghost use Rattle.tabled_script.specs.InMemory.{texts_in};
-ghost use Rattle.tabled_script.specs.Outcome.{IfWritten};
+ghost use Rattle.tabled_script.specs.Outcome.{OnlyFails};
 
 use crate::alignments::Alignments;
+use crate::outcome::{Outcome, Unwritten};
 use std::alloc::{AllocError, Global};
-use std::io::{self, Write};
+use std::io::Write;
 use tabled_draw::Alignment;
 use tabled_grid::config::SpannedConfig;
 use tabled_html::{Page, WriteError, write_with};
@@ -38,20 +39,20 @@ pub(crate) fn write_html<W: Write>(
     spans: &SpannedConfig,
     page: &HtmlPage,
     writer: &mut W,
-) -> Result<io::Result<()>, AllocError>
+) -> Outcome
     requires { IsEven (grid_of (map_items records.now.items)) }
-    ensures written { IfWritten result (
+    ensures written { OnOk result (
         Appends (W.contents writer.old) (W.contents writer.new) (html (texts_in records.now.items) spans.now (look_of page.now (texts_in records.now.items)))) }
-    ensures shows { IfWritten result (ShowsGrid page.now (texts_in records.now.items) spans.now) }
-    ensures refused { OnErr result (W.contents writer.new ≡ W.contents writer.old) }
+    ensures shows { OnOk result (ShowsGrid page.now (texts_in records.now.items) spans.now) }
+    ensures unwritten { IfErr result (OnlyFails (W.contents writer.old) (W.contents writer.new)) }
 {
     let alignments = page.alignments.of_columns(alloc, records)?;
     let alignments = html_alignments(alloc, &alignments)?;
     let look = look_with(page, &alignments);
     match write_with(alloc, writer, records, spans, &look) {
-        Ok(()) => Ok(writer.flush()),
-        Err(WriteError::OutOfMemory) => Err(AllocError),
-        Err(WriteError::Failed(error)) => Ok(Err(error)),
+        Ok(()) => Ok(writer.flush()?),
+        Err(WriteError::OutOfMemory) => Err(Unwritten::OutOfMemory),
+        Err(WriteError::Failed(_)) => Err(Unwritten::Failed),
     }
 }
 

@@ -1,7 +1,7 @@
 //! A table as JSON, and the rows of JSON.
 
 ghost use Rattle.std.specs.Io.KnownBytes.{Appends};
-ghost use Rattle.std.specs.Prelude.{◌≡◌, MatchResult, OnErr};
+ghost use Rattle.std.specs.Prelude.{IfErr, MatchResult, OnOk};
 ghost use Rattle.tabled_grid.specs.Grid.{IsEven, grid_of, map_items};
 ghost use Rattle.tabled_json.specs.Meanings.{MeansTable};
 ghost use Rattle.tabled_json.specs.Writes.{AreKeyed};
@@ -10,13 +10,14 @@ ghost use Rattle.tabled_language.specs.Lent.{texts_in_records};
 ghost use Rattle.tabled_script.specs.InMemory.{texts_in};
 ghost use Rattle.tabled_script.specs.Inputs.{NoRowsIn};
 ghost use Rattle.tabled_script.specs.Keys.{HasEqualKeys};
-ghost use Rattle.tabled_script.specs.Outcome.{IfDrawn, IfUndrawn};
+ghost use Rattle.tabled_script.specs.Outcome.{Fails};
 ghost use Rattle.tabled_script.specs.declared.request.Format.TheVariants.{Json};
 
 use crate::inputs::{RowsError, SourceFault};
 use crate::lending::lent_rows;
-use std::alloc::{AllocError, Global};
-use std::io::{self, Write};
+use crate::outcome::{Outcome, Unwritten};
+use std::alloc::Global;
+use std::io::Write;
 use tabled_grid::records::CellText;
 use tabled_json::{Layout, ReadError, Spare, Values, WriteError, read_table_with, write_records};
 use tabled_language::LentText;
@@ -37,25 +38,24 @@ pub(crate) fn write_json<W: Write>(
     layout: Layout,
     values: Values,
     writer: &mut W,
-) -> Result<Result<io::Result<()>, EqualKeys>, AllocError>
+) -> Outcome
     requires { IsEven (grid_of (map_items records.now.items)) }
-    ensures written { IfDrawn result (
+    ensures written { OnOk result (
         Appends (W.contents writer.old) (W.contents writer.new) (json_of layout values (texts_in records.now.items).cells)) }
-    ensures keyed { IfDrawn result (AreKeyed (texts_in records.now.items).cells) }
-    ensures equal { IfUndrawn result (λ _. HasEqualKeys (texts_in records.now.items).cells) }
-    ensures left { IfUndrawn result (λ _. W.contents writer.new ≡ W.contents writer.old) }
-    ensures refused { OnErr result (W.contents writer.new ≡ W.contents writer.old) }
+    ensures keyed { OnOk result (AreKeyed (texts_in records.now.items).cells) }
+    ensures unwritten { IfErr result (
+        Fails (λ _. ⊥) (λ _. HasEqualKeys (texts_in records.now.items).cells) (W.contents writer.old) (W.contents writer.new)) }
 {
     match write_records(alloc, writer, layout, values, records) {
-        Ok(()) => Ok(Ok(writer.flush())),
+        Ok(()) => Ok(writer.flush()?),
         Err(WriteError::EqualKeys { first, second }) => {
             let key = String::from_str(alloc, text_in_first_row(records, first))?;
-            Ok(Err(EqualKeys { key, first, second }))
+            Err(Unwritten::EqualKeys(EqualKeys { key, first, second }))
         }
         // Rows of a table are equally long.
         Err(WriteError::LongRow { .. }) => unreachable!(),
-        Err(WriteError::OutOfMemory) => Err(AllocError),
-        Err(WriteError::Failed(error)) => Ok(Ok(Err(error))),
+        Err(WriteError::OutOfMemory) => Err(Unwritten::OutOfMemory),
+        Err(WriteError::Failed(_)) => Err(Unwritten::Failed),
     }
 }
 

@@ -1,7 +1,7 @@
 //! What comes of a script, and the status that stands for it.
 
 ghost use Rattle.std.specs.Prelude.{◌≡◌};
-ghost use Rattle.tabled_script.specs.Outcome.{outcome_of_drawing, outcome_of_records, outcome_of_writing, status_of, status_with_notes};
+ghost use Rattle.tabled_script.specs.Outcome.{status_of, status_with_notes};
 
 use crate::json_form::EqualKeys;
 use crate::picture::TooNarrow;
@@ -24,16 +24,17 @@ pub(crate) const FAILED: u8 = 4;
 /// The table was written, and something was told of what was checked.
 pub(crate) const NOTED: u8 = 5;
 
-/// What comes of a script.
+/// What comes of a script: the table that it ends with was written, or why it wasn't.
+pub(crate) type Outcome = Result<(), Unwritten>;
+
+/// Why a table wasn't written.
 #[derive(Drop)]
-pub(crate) enum Outcome {
-    /// The table that it ends with was written.
-    Written,
-    /// Its line of a number, counted behind rows, is the first faulty one.
+pub(crate) enum Unwritten {
+    /// The line of a number, counted behind rows, is the first faulty one.
     Faulty(usize, Fault),
-    /// No picture of the table is as narrow as is asked for.
+    /// No picture of it is as narrow as is asked for.
     TooNarrow(TooNarrow),
-    /// Two keys of the table as records are equal.
+    /// Two of its keys as records are equal.
     EqualKeys(EqualKeys),
     /// Memory ran out, and nothing was written.
     OutOfMemory,
@@ -41,60 +42,47 @@ pub(crate) enum Outcome {
     Failed,
 }
 
-impl Outcome {
-    /// What comes of it that a table was written, or wasn't.
-    pub(crate) fn of_writing(written: Result<io::Result<()>, AllocError>) -> Self
-        ensures { result ≡ outcome_of_writing written }
-    {
-        match written {
-            Ok(Ok(())) => Outcome::Written,
-            Ok(Err(_)) => Outcome::Failed,
-            Err(_) => Outcome::OutOfMemory,
-        }
-    }
-
-    /// What comes of it that a picture was drawn, or wasn't.
-    pub(crate) fn of_drawing(drawn: Result<Result<io::Result<()>, TooNarrow>, AllocError>) -> Self
-        ensures { result ≡ outcome_of_drawing drawn }
-    {
-        match drawn {
-            Ok(Ok(Ok(()))) => Outcome::Written,
-            Ok(Ok(Err(_))) => Outcome::Failed,
-            Ok(Err(narrow)) => Outcome::TooNarrow(narrow),
-            Err(_) => Outcome::OutOfMemory,
-        }
-    }
-
-    /// What comes of it that a table was written as records, or wasn't.
-    pub(crate) fn of_records(written: Result<Result<io::Result<()>, EqualKeys>, AllocError>) -> Self
-        ensures { result ≡ outcome_of_records written }
-    {
-        match written {
-            Ok(Ok(Ok(()))) => Outcome::Written,
-            Ok(Ok(Err(_))) => Outcome::Failed,
-            Ok(Err(keys)) => Outcome::EqualKeys(keys),
-            Err(_) => Outcome::OutOfMemory,
-        }
-    }
-
-    /// The status of an answer, by whether something was told of what was checked.
-    pub(crate) fn status_with_notes(&self, has_notes: bool) -> u8
-        ensures { result ≡ status_with_notes self.now has_notes }
-    {
-        match self {
-            Outcome::Written if has_notes => NOTED,
-            _ => self.status(),
-        }
-    }
-
+impl Unwritten {
     pub(crate) fn status(&self) -> u8
         ensures { result ≡ status_of self.now }
     {
         match self {
-            Outcome::Written => DONE,
-            Outcome::Faulty(_, _) | Outcome::TooNarrow(_) | Outcome::EqualKeys(_) => FAULTY,
-            Outcome::OutOfMemory => OUT_OF_MEMORY,
-            Outcome::Failed => FAILED,
+            Unwritten::Faulty(_, _) | Unwritten::TooNarrow(_) | Unwritten::EqualKeys(_) => FAULTY,
+            Unwritten::OutOfMemory => OUT_OF_MEMORY,
+            Unwritten::Failed => FAILED,
         }
+    }
+}
+
+/// The status of an answer, by whether something was told of what was checked.
+pub(crate) fn status_with_notes(outcome: &Outcome, has_notes: bool) -> u8
+    ensures { result ≡ status_with_notes outcome.now has_notes }
+{
+    match outcome {
+        Ok(()) if has_notes => NOTED,
+        Ok(()) => DONE,
+        Err(why) => why.status(),
+    }
+}
+
+impl From<AllocError> for Unwritten {
+    ghost use Rattle.std.specs.Prelude.{◌≡◌};
+    ghost use Rattle.tabled_script.specs.declared.outcome.Unwritten.TheVariants.{OutOfMemory};
+
+    ghost from_gives = { λ _ e. e ≡ OutOfMemory };
+
+    fn from(_refused: AllocError) -> Unwritten {
+        Unwritten::OutOfMemory
+    }
+}
+
+impl From<io::Error> for Unwritten {
+    ghost use Rattle.std.specs.Prelude.{◌≡◌};
+    ghost use Rattle.tabled_script.specs.declared.outcome.Unwritten.TheVariants.{Failed};
+
+    ghost from_gives = { λ _ e. e ≡ Failed };
+
+    fn from(_failed: io::Error) -> Unwritten {
+        Unwritten::Failed
     }
 }

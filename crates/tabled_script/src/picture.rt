@@ -1,19 +1,19 @@
 //! The picture of a table, and a table as Markdown.
 
 ghost use Rattle.std.specs.Io.KnownBytes.{Appends};
-ghost use Rattle.std.specs.Prelude.{◌≡◌, IfOk, None, OnErr, OnOk};
+ghost use Rattle.std.specs.Prelude.{◌≡◌, IfErr, IfOk, OnOk};
 ghost use Rattle.tabled_draw.specs.Markdown.{markdown};
 ghost use Rattle.tabled_draw.specs.Picture.{drawn_with};
 ghost use Rattle.tabled_draw.specs.Width.{picture_width};
 ghost use Rattle.tabled_grid.specs.Grid.{IsEven, grid_of, map_grid, map_items};
 ghost use Rattle.tabled_script.specs.InMemory.{texts_in};
-ghost use Rattle.tabled_script.specs.Narrow.{WritesNarrowPicture, at_widest_pieces, narrowed};
-ghost use Rattle.tabled_script.specs.Outcome.{IfDrawn, IfUndrawn, IfWritten};
+ghost use Rattle.tabled_script.specs.Narrow.{WritesNarrowPicture};
+ghost use Rattle.tabled_script.specs.Outcome.{Fails, IsTooNarrow, OnlyFails};
 
-use crate::alignments::Alignments;
 use crate::narrow::{at_widest_pieces, cut_to};
+use crate::outcome::{Outcome, Unwritten};
 use std::alloc::{AllocError, Global};
-use std::io::{self, Write};
+use std::io::Write;
 use tabled_draw::laws::lines_take_the_width_of_their_picture;
 use tabled_draw::{Alignment, Drawing, Look, Markdown, Style};
 use tabled_grid::config::SpannedConfig;
@@ -27,18 +27,17 @@ pub(crate) fn write_picture<W: Write>(
     records: Vec<Vec<LentText>>,
     spans: &SpannedConfig,
     style: Style,
-    alignments: &Alignments,
+    alignments: &[Alignment],
     writer: &mut W,
-) -> Result<io::Result<()>, AllocError>
+) -> Outcome
     requires { IsEven (grid_of (map_items records.items)) }
-    ensures written { IfWritten result (
-        Appends (W.contents writer.old) (W.contents writer.new) (drawn_with style (alignments.now (texts_in records.entry.items)) (texts_in records.entry.items) spans.now)) }
-    ensures refused { OnErr result (W.contents writer.new ≡ W.contents writer.old) }
+    ensures written { OnOk result (
+        Appends (W.contents writer.old) (W.contents writer.new) (drawn_with style alignments.now (texts_in records.entry.items) spans.now)) }
+    ensures unwritten { IfErr result (OnlyFails (W.contents writer.old) (W.contents writer.new)) }
 {
-    let alignments = alignments.of_columns(alloc, &records)?;
-    let look = Look::new(style).align(&alignments);
+    let look = Look::new(style).align(alignments);
     let drawing = Drawing::with_look(alloc, &records, spans, &look)?;
-    Ok(write_drawing(drawing, writer))
+    write_drawing(drawing, writer)
 }
 
 /// No picture is as narrow as is asked for.
@@ -64,47 +63,44 @@ impl TooNarrow {
 
 /// Writes a picture of a table (`r x c`) of at most n columns, in which texts are wrapped where that is needed. Where no
 /// picture is that narrow, nothing is written.
-pub(crate) fn write_narrow_picture<R, W>(
+pub(crate) fn write_narrow_picture<'a, R, W>(
     alloc: Global,
-    records: &R,
+    records: &'a R,
     spans: &SpannedConfig,
     style: Style,
-    alignments: &Alignments,
+    alignments: &'a [Alignment],
     width: usize,
     writer: &mut W,
-) -> Result<Result<io::Result<()>, TooNarrow>, AllocError>
+) -> Outcome
 where
     R: Records + ExactRecords + PeekableRecords,
     R::Cell: CellText,
     W: Write,
     requires { R.is_well_formed records.now }
-    ensures written { IfDrawn result (
-        WritesNarrowPicture width style (alignments.now (map_grid R.Cell.text_of (R.grid records.now))) (map_grid R.Cell.text_of (R.grid records.now)) spans.now (W.contents writer.old) (W.contents writer.new)) }
-    ensures undrawn { IfUndrawn result (λ narrow. narrowed width style spans.now (map_grid R.Cell.text_of (R.grid records.now)) ≡ None) }
-    ensures takes { IfUndrawn result (λ narrow. narrow.takes ≡ picture_width style (at_widest_pieces (map_grid R.Cell.text_of (R.grid records.now))) spans.now) }
-    ensures left { IfUndrawn result (λ narrow. W.contents writer.new ≡ W.contents writer.old) }
-    ensures refused { OnErr result (W.contents writer.new ≡ W.contents writer.old) }
+    ensures written { OnOk result (
+        WritesNarrowPicture width style alignments.now (map_grid R.Cell.text_of (R.grid records.now)) spans.now (W.contents writer.old) (W.contents writer.new)) }
+    ensures unwritten { IfErr result (
+        Fails (IsTooNarrow width style spans.now (map_grid R.Cell.text_of (R.grid records.now))) (λ _. ⊥) (W.contents writer.old) (W.contents writer.new)) }
 {
     lines_take_the_width_of_their_picture();
-    let alignments = alignments.of_columns(alloc, records)?;
-    let (whole, columns) = laid_out(alloc, records, spans, style, &alignments)?;
+    let (whole, columns) = laid_out(alloc, records, spans, style, alignments)?;
     if columns <= width {
-        return Ok(Ok(write_drawing(whole, writer)));
+        return write_drawing(whole, writer);
     }
     let pieces = at_widest_pieces(alloc, records)?;
-    let (least, takes) = laid_out(alloc, &pieces, spans, style, &alignments)?;
+    let (least, takes) = laid_out(alloc, &pieces, spans, style, alignments)?;
     if width < takes {
-        return Ok(Err(TooNarrow {
+        return Err(Unwritten::TooNarrow(TooNarrow {
             asked: width,
             takes,
         }));
     }
     let cut = cut_to(alloc, records, &pieces, spans, &style, width)?;
-    let (drawing, columns) = laid_out(alloc, &cut, spans, style, &alignments)?;
+    let (drawing, columns) = laid_out(alloc, &cut, spans, style, alignments)?;
     if columns <= width {
-        return Ok(Ok(write_drawing(drawing, writer)));
+        return write_drawing(drawing, writer);
     }
-    Ok(Ok(write_drawing(least, writer)))
+    write_drawing(least, writer)
 }
 
 /// The picture of a table (`r x c`), laid out, and the columns that each of its lines takes.
@@ -132,35 +128,30 @@ pub(crate) fn write_markdown<W: Write>(
     alloc: Global,
     records: Vec<Vec<LentText>>,
     spans: &SpannedConfig,
-    alignments: &Alignments,
+    alignments: &[Alignment],
     writer: &mut W,
-) -> Result<io::Result<()>, AllocError>
+) -> Outcome
     requires { IsEven (grid_of (map_items records.items)) }
-    ensures written { IfWritten result (
-        Appends (W.contents writer.old) (W.contents writer.new) (markdown (alignments.now (texts_in records.entry.items)) (texts_in records.entry.items) spans.now)) }
-    ensures refused { OnErr result (W.contents writer.new ≡ W.contents writer.old) }
+    ensures written { OnOk result (
+        Appends (W.contents writer.old) (W.contents writer.new) (markdown alignments.now (texts_in records.entry.items) spans.now)) }
+    ensures unwritten { IfErr result (OnlyFails (W.contents writer.old) (W.contents writer.new)) }
 {
-    let alignments = alignments.of_columns(alloc, &records)?;
-    let markdown = Markdown::new(alloc, &records, spans, &alignments)?;
-    Ok(write_lines(markdown, writer))
-}
-
-/// Writes Markdown, and flushes the writer.
-fn write_lines<W: Write>(markdown: Markdown<'_>, writer: &mut W) -> io::Result<()>
-    ensures { OnOk result (Appends (W.contents writer.old) (W.contents writer.new) markdown.entry) }
-{
+    let markdown = Markdown::new(alloc, &records, spans, alignments)?;
     markdown.write(writer)?;
-    writer.flush()
+    writer.flush()?;
+    Ok(())
 }
 
 /// Writes a picture, and flushes the writer.
-fn write_drawing<R, W>(drawing: Drawing<R>, writer: &mut W) -> io::Result<()>
+fn write_drawing<R, W>(drawing: Drawing<R>, writer: &mut W) -> Outcome
 where
     R: Records + ExactRecords + PeekableRecords,
     R::Cell: CellText,
     W: Write,
-    ensures { OnOk result (Appends (W.contents writer.old) (W.contents writer.new) drawing.entry) }
+    ensures written { OnOk result (Appends (W.contents writer.old) (W.contents writer.new) drawing.entry) }
+    ensures unwritten { IfErr result (OnlyFails (W.contents writer.old) (W.contents writer.new)) }
 {
     drawing.write(writer)?;
-    writer.flush()
+    writer.flush()?;
+    Ok(())
 }

@@ -17,7 +17,7 @@ use crate::ending::run_between;
 use crate::form::Form;
 use crate::inputs::rows_of_sources;
 use crate::notes::Notes;
-use crate::outcome::{FAILED, FAULTY, OUT_OF_MEMORY, Outcome};
+use crate::outcome::{DONE, FAILED, FAULTY, OUT_OF_MEMORY, Outcome, Unwritten, status_with_notes};
 use crate::reading::{Unread, read_whole};
 use crate::request::Request;
 use crate::room::Rooms;
@@ -127,7 +127,7 @@ pub fn answer<W: Write, E: Write>(
             tell_ragged(alloc, request, &rows, &mut notes);
             let outcome = run_between(alloc, request, rows, script, writer, &mut notes);
             tell_outcome(alloc, lines, &outcome, notes.errors);
-            outcome.status_with_notes(request.checks_steps && notes.has_notes)
+            status_with_notes(&outcome, request.checks_steps && notes.has_notes)
         }
         Err(error) => {
             tell_sources_error(alloc, sources, &error, errors);
@@ -154,7 +154,7 @@ fn run_to_form<R: Read, W: Write>(alloc: Global, form: Form, reader: &mut R, wri
             write_end(alloc, outcome, writer)
         }
         Err(Unread::Failed(_)) => FAILED,
-        Err(Unread::OutOfMemory) => write_end(alloc, Outcome::OutOfMemory, writer),
+        Err(Unread::OutOfMemory) => write_end(alloc, Err(Unwritten::OutOfMemory), writer),
     }
 }
 
@@ -163,14 +163,14 @@ pub(crate) fn write_end<W: Write>(alloc: Global, outcome: Outcome, writer: &mut 
     ensures { Ends outcome result (W.contents writer.old) (W.contents writer.new) }
 {
     match outcome {
-        Outcome::Faulty(line, fault) => match fault_line(alloc, (line, fault)) {
+        Ok(()) => DONE,
+        Err(Unwritten::Faulty(line, fault)) => match fault_line(alloc, (line, fault)) {
             Ok(text) => write_status(writer, text.as_bytes(), FAULTY),
             Err(_) => write_status(writer, MEMORY_LINE, OUT_OF_MEMORY),
         },
-        Outcome::OutOfMemory => write_status(writer, MEMORY_LINE, OUT_OF_MEMORY),
-        Outcome::Written | Outcome::TooNarrow(_) | Outcome::EqualKeys(_) | Outcome::Failed => {
-            outcome.status()
-        }
+        Err(Unwritten::TooNarrow(_) | Unwritten::EqualKeys(_)) => FAULTY,
+        Err(Unwritten::OutOfMemory) => write_status(writer, MEMORY_LINE, OUT_OF_MEMORY),
+        Err(Unwritten::Failed) => FAILED,
     }
 }
 

@@ -2,7 +2,7 @@
 
 ghost use Rattle.std.specs.Io.KnownBytes.{Appends};
 ghost use Rattle.std.specs.List.{AllByRecursion, flat_map};
-ghost use Rattle.std.specs.Prelude.{◌≡◌, ◌≤◌, [], ◌∷◌, None, codes, length, map, OnErr, OnOk};
+ghost use Rattle.std.specs.Prelude.{◌≡◌, ◌≤◌, [], ◌∷◌, None, codes, length, map, IfErr, OnOk};
 ghost use Rattle.std.specs.Str.{IsUtf8};
 ghost use Rattle.tabled_grid.specs.Grid.{IsEven, grid_of, map_items, width_of};
 ghost use Rattle.tabled_grid.specs.Spans.{rectangles};
@@ -12,10 +12,11 @@ ghost use Rattle.tabled_language.specs.Output.{line, print, row_line, span_line,
 ghost use Rattle.tabled_language.specs.Word.{largest_size};
 ghost use Rattle.tabled_script.specs.Answer.{IsTableIfFitting};
 ghost use Rattle.tabled_script.specs.InMemory.{state_in, texts_in};
-ghost use Rattle.tabled_script.specs.Outcome.{IfWritten};
+ghost use Rattle.tabled_script.specs.Outcome.{OnlyFails};
 
+use crate::outcome::Outcome;
 use crate::words::{write_numbers, write_word};
-use std::alloc::{AllocError, Global};
+use std::alloc::Global;
 use std::io::{self, Write};
 use tabled_grid::config::{Rectangle, SpannedConfig};
 use tabled_grid::records::{ExactRecords, Records};
@@ -29,30 +30,16 @@ pub(crate) fn write_script<W: Write>(
     records: &Vec<Vec<LentText>>,
     spans: &SpannedConfig,
     writer: &mut W,
-) -> Result<io::Result<()>, AllocError>
+) -> Outcome
     requires { IsEven (grid_of (map_items records.now.items)) }
-    ensures written { IfWritten result (Appends (W.contents writer.old) (W.contents writer.new) (print (state_in records.now.items spans.now))) }
-    ensures known { IfWritten result (IsTableIfFitting (state_in records.now.items spans.now)) }
-    ensures refused { OnErr result (W.contents writer.new ≡ W.contents writer.old) }
-{
-    let held = Held::new(alloc)?;
-    Ok(write_lines(writer, held, records, spans))
-}
-
-/// Writes the lines of a table, and flushes the writer.
-fn write_lines<W: Write>(
-    writer: &mut W,
-    held: Held,
-    records: &Vec<Vec<LentText>>,
-    spans: &SpannedConfig,
-) -> io::Result<()>
-    requires even { IsEven (grid_of (map_items records.now.items)) }
-    requires unused { held.bytes ≡ [] }
     ensures written { OnOk result (Appends (W.contents writer.old) (W.contents writer.new) (print (state_in records.now.items spans.now))) }
     ensures known { OnOk result (IsTableIfFitting (state_in records.now.items spans.now)) }
+    ensures unwritten { IfErr result (OnlyFails (W.contents writer.old) (W.contents writer.new)) }
 {
+    let held = Held::new(alloc)?;
     send_lines(writer, held, records, spans)?;
-    writer.flush()
+    writer.flush()?;
+    Ok(())
 }
 
 /// Writes the lines of a table.

@@ -5,7 +5,7 @@ use crate::inputs::{JoinError, RowsError, SourceFault, SourcesError, lent_step};
 use crate::json_form::EqualKeys;
 use crate::message::complaint;
 use crate::notes::Notes;
-use crate::outcome::{FAILED, OUT_OF_MEMORY, Outcome};
+use crate::outcome::{FAILED, OUT_OF_MEMORY, Outcome, Unwritten};
 use crate::request::{Request, Source};
 use crate::told_words::ToldWords;
 use std::alloc::{AllocError, Global};
@@ -115,12 +115,15 @@ pub(crate) fn tell_outcome<E: Write>(
     errors: &mut E,
 ) {
     match outcome {
-        Outcome::Faulty(number, fault) => tell(fault_lines(alloc, lines, *number, *fault), errors),
-        Outcome::TooNarrow(narrow) => narrow.tell(alloc, errors),
-        Outcome::EqualKeys(keys) => tell(equal_keys_line(alloc, keys), errors),
-        Outcome::OutOfMemory => tell_status(OUT_OF_MEMORY, errors),
+        Err(Unwritten::Faulty(number, fault)) => tell(
+            fault_lines(alloc, lines, *number, *fault),
+            errors,
+        ),
+        Err(Unwritten::TooNarrow(narrow)) => narrow.tell(alloc, errors),
+        Err(Unwritten::EqualKeys(keys)) => tell(equal_keys_line(alloc, keys), errors),
+        Err(Unwritten::OutOfMemory) => tell_status(OUT_OF_MEMORY, errors),
         // Who gives the writer knows why it failed.
-        Outcome::Written | Outcome::Failed => {}
+        Ok(()) | Err(Unwritten::Failed) => {}
     }
 }
 

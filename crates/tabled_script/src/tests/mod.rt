@@ -2,7 +2,7 @@
 
 mod streams;
 
-use crate::outcome::Outcome;
+use crate::outcome::Unwritten;
 use crate::program::write_end;
 use std::test::Fail;
 use tabled_language::Fault;
@@ -10,10 +10,14 @@ use tabled_language::Fault;
 #[test]
 fn says_how_it_ended(rt: HostRuntime) -> Result<(), Fail> {
     for (outcome, status, bytes) in [
-        (Outcome::Written, 0, ""),
-        (Outcome::Faulty(12, Fault::Escape), 2, "line 12: fault 4\n"),
-        (Outcome::OutOfMemory, 3, "out of memory\n"),
-        (Outcome::Failed, 4, ""),
+        (Ok(()), 0, ""),
+        (
+            Err(Unwritten::Faulty(12, Fault::Escape)),
+            2,
+            "line 12: fault 4\n",
+        ),
+        (Err(Unwritten::OutOfMemory), 3, "out of memory\n"),
+        (Err(Unwritten::Failed), 4, ""),
     ] {
         let mut written = Vec::new(rt.alloc());
         assert_eq!(rt; write_end(rt.alloc(), outcome, &mut written), status);

@@ -1,6 +1,6 @@
 //! Scripts run over readers and writers that give and take little, fail, or are interrupted.
 
-use crate::outcome::Outcome;
+use crate::outcome::Unwritten;
 use crate::program::write_end;
 use crate::run_script;
 use std::io::{self, ErrorKind, Read, Write};
@@ -121,7 +121,7 @@ fn what_is_written_is_flushed_or_failed(rt: HostRuntime) -> Result<(), Fail> {
                         flushed: Vec::new(alloc),
                     };
                     let answered = if status == 3 {
-                        write_end(alloc, Outcome::OutOfMemory, &mut writer)
+                        write_end(alloc, Err(Unwritten::OutOfMemory), &mut writer)
                     } else {
                         let mut reader = script.as_bytes();
                         run_script(alloc, &mut reader, &mut writer)
