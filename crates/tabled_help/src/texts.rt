@@ -20,6 +20,7 @@ What is read
                                 Those of a further file stand behind them, without its first row, which is the same
   --json FILE                   the records of a file of JSON, under a row of their keys, or its rows, as those of --csv
   --separator C                 the character of ASCII between fields of CSV, or tab; without it a comma
+  --no-quotes                   quotes in the files of --csv are characters like others
   --script FILE                 a script (-: of standard input). Without it a script is read from standard input, where
                                 there is no file of rows
 

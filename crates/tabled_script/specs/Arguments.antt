@@ -7,7 +7,7 @@ use Rattle.std.specs.Str.{bytes_eq}
 use Rattle.std.specs.String.{string_bytes}
 use Rattle.tabled_language.specs.Word.{length_of}
 use Rattle.tabled_script.specs.Aligners.{Aligner, aligner_of}
-use Rattle.tabled_script.specs.Settings.{drawn_named, forms, named_in, options, read_by, separator_of, takes_value}
+use Rattle.tabled_script.specs.Settings.{drawn_named, forms, is_csv, named_in, options, read_by, separator_of, takes_value}
 use Rattle.tabled_script.specs.declared.arguments.Next.{Next}
 use Rattle.tabled_script.specs.declared.arguments.Next.TheVariants as next
 use Rattle.tabled_script.specs.declared.refusal.Misuse.{Misuse}
@@ -29,6 +29,8 @@ pub record Asked : Type 0 where
   pub columns : Option ℕ
   pub sources : List (Kind × List ℕ)
   pub separator : Option ℕ
+  pub no_quotes : Bool
+  pub reads_csv : Bool
   pub to_separator : Option ℕ
   pub strings : Bool
   pub header : Option ℕ
@@ -55,6 +57,7 @@ is_set setting.Width asked = is_some asked.width
 is_set setting.Columns asked = is_some asked.columns
 is_set (setting.Rows kind) asked = false
 is_set setting.Separator asked = is_some asked.separator
+is_set setting.NoQuotes asked = asked.no_quotes
 is_set setting.ToSeparator asked = is_some asked.to_separator
 is_set setting.Strings asked = asked.strings
 is_set setting.Header asked = is_some asked.header
@@ -84,7 +87,7 @@ set_to setting.Style name asked = record asked { drawn = drawn_named name }
 set_to setting.Alignments value asked = record asked { alignments = aligner_of value }
 set_to setting.Width number asked = record asked { width = length_of number }
 set_to setting.Columns number asked = record asked { columns = length_of number }
-set_to (setting.Rows kind) name asked = record asked { sources = asked.sources ++ (kind, name) ∷ []; reads_input = asked.reads_input || is_input name }
+set_to (setting.Rows kind) name asked = record asked { sources = asked.sources ++ (kind, name) ∷ []; reads_input = asked.reads_input || is_input name; reads_csv = asked.reads_csv || is_csv kind }
 set_to setting.Separator name asked = record asked { separator = separator_of name }
 set_to setting.ToSeparator name asked = record asked { to_separator = separator_of name }
 set_to setting.Header number asked = record asked { header = length_of number }
@@ -92,6 +95,7 @@ set_to setting.Caption text asked = record asked { caption = Some text }
 set_to setting.Script name asked = record asked { script = file_named name; reads_input = asked.reads_input || is_input name }
 set_to setting.Output name asked = record asked { output = file_named name }
 set_to setting.Picture value asked = asked
+set_to setting.NoQuotes value asked = asked
 set_to setting.Strings value asked = asked
 set_to setting.Checks value asked = asked
 
@@ -125,6 +129,7 @@ with_value setting value asked =
 abbrev pub with_option : Option Setting → List ℕ → Asked → Result Asked Blamed
 with_option None option asked = Err (misuse.NoOption, option)
 with_option (Some setting.Picture) option asked = Ok (record asked { draws = true })
+with_option (Some setting.NoQuotes) option asked = Ok (record asked { no_quotes = true })
 with_option (Some setting.Strings) option asked = Ok (record asked { strings = true })
 with_option (Some setting.Checks) option asked = Ok (record asked { checks_steps = true })
 with_option (Some setting) option asked = Ok (expect (next.Value setting) asked)

@@ -18,7 +18,7 @@ use Rattle.tabled_script.specs.declared.refusal.Failure.TheVariants as failure
 use Rattle.tabled_script.specs.declared.refusal.Misuse.{Misuse}
 use Rattle.tabled_script.specs.declared.refusal.Misuse.TheVariants as misuse
 use Rattle.tabled_script.specs.declared.refusal.Refusal.{Refusal}
-use Rattle.tabled_script.specs.declared.refusal.Refusal.TheVariants.{Contradictory, Failed, Misused, NoValue, NotText, OutOfMemory, Terminal}
+use Rattle.tabled_script.specs.declared.refusal.Refusal.TheVariants.{Contradictory, Failed, Misused, NoCsv, NoValue, NotText, OutOfMemory, Terminal}
 use Rattle.tabled_script.specs.declared.setting.Setting.{Setting}
 use Rattle.tabled_script.specs.declared.setting.Setting.TheVariants as setting
 
@@ -42,6 +42,7 @@ abbrev pub status_of : Refusal → ℕ
 status_of (Misused misuse text) = refused
 status_of (NoValue setting) = refused
 status_of (Contradictory first other) = refused
+status_of NoCsv = refused
 status_of NotText = refused
 status_of Terminal = refused
 status_of (Failed name why) = failed
@@ -86,6 +87,7 @@ value_text setting.Caption text = name_of setting.Caption ++ codes " takes any v
 value_text setting.Separator name = name ++ codes " is no separator: one character of ASCII, but no quote, or tab"
 value_text setting.ToSeparator name = name ++ codes " is no separator: one character of ASCII, but no quote, or tab"
 value_text setting.Picture value = name_of setting.Picture ++ codes " takes no value"
+value_text setting.NoQuotes value = name_of setting.NoQuotes ++ codes " takes no value"
 value_text setting.Strings value = name_of setting.Strings ++ codes " takes no value"
 value_text setting.Checks value = name_of setting.Checks ++ codes " takes no value"
 value_text file name = codes "no name of a file stands behind " ++ name_of file
@@ -132,6 +134,7 @@ abbrev pub refusal_text : Refusal → List ℕ
 refusal_text (Misused misuse text) = misuse_text misuse (string_bytes text)
 refusal_text (NoValue setting) = name_of setting ++ codes " lacks its value"
 refusal_text (Contradictory first other) = name_of first ++ (codes " and " ++ (name_of other ++ codes " contradict each other"))
+refusal_text NoCsv = codes "--no-quotes says how the files of --csv are read, and there is none"
 refusal_text NotText = codes "an argument isn't UTF-8"
 refusal_text Terminal = codes "a script comes in by standard input, which is a terminal here: write ./tabled_script [OPTIONS] [STEP [then STEP]..] < SCRIPT; --help tells the rest"
 refusal_text (Failed name why) = string_bytes name ++ (codes ": " ++ failure_text why)

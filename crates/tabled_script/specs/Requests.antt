@@ -3,6 +3,7 @@ use Rattle.std.specs.Prelude.{◌≡◌, ℕ, ◌&&◌, ◌||◌, Bool, true, fa
 use Rattle.std.specs.List.{find}
 use Rattle.std.specs.Option.{is_some, option_and_then, option_map, unwrap_or}
 use Rattle.std.specs.String.{string_bytes}
+use Rattle.tabled_csv.specs.Grammar.{Dialect}
 use Rattle.tabled_draw.specs.Styles.{ascii}
 use Rattle.tabled_json.specs.declared.form.Layout.{Layout}
 use Rattle.tabled_json.specs.declared.form.Layout.TheVariants as layout
@@ -15,8 +16,7 @@ use Rattle.tabled_script.specs.declared.arguments.Next.TheVariants as next
 use Rattle.tabled_script.specs.declared.form.Form.{Form}
 use Rattle.tabled_script.specs.declared.form.Form.TheVariants as form
 use Rattle.tabled_script.specs.declared.refusal.Refusal.{Refusal}
-use Rattle.tabled_script.specs.declared.refusal.Refusal.TheVariants.{Contradictory, Failed, Misused, NoValue, NotText, OutOfMemory, Terminal}
-use Rattle.tabled_csv.specs.Grammar.{with_quotes}
+use Rattle.tabled_script.specs.declared.refusal.Refusal.TheVariants.{Contradictory, Failed, Misused, NoCsv, NoValue, NotText, OutOfMemory, Terminal}
 use Rattle.tabled_script.specs.declared.request.Format.{Format}
 use Rattle.tabled_script.specs.declared.request.Format.TheVariants as format
 use Rattle.tabled_script.specs.declared.request.Source.{Source}
@@ -41,6 +41,8 @@ nothing_asked = record {
   columns = None;
   sources = [];
   separator = None;
+  no_quotes = false;
+  reads_csv = false;
   to_separator = None;
   strings = false;
   header = None;
@@ -122,10 +124,15 @@ abbrev pub awaited : Next → Option Setting
 awaited (next.Value setting) = Some setting
 awaited other = None
 
--- what is asked for lacks a value, or contradicts itself, or there is no memory for it
+-- it is said how CSV is read, and there is none
+abbrev pub lacks_csv : Asked → Bool
+lacks_csv asked = asked.no_quotes && not asked.reads_csv
+
+-- what is asked for lacks a value or a file of CSV, or contradicts itself, or there is no memory for it
 abbrev pub IsUnmade : Asked → Refusal → Type 0
 IsUnmade asked (NoValue setting) = awaited asked.next ≡ Some setting
 IsUnmade asked (Contradictory first other) = contradiction asked ≡ Some (first, other)
+IsUnmade asked NoCsv = lacks_csv asked ≡ true
 IsUnmade asked OutOfMemory = Unit {0}
 IsUnmade asked (Misused misuse text) = ⊥
 IsUnmade asked NotText = ⊥
@@ -143,6 +150,10 @@ width_of asked = if is_some asked.width || is_some asked.output then asked.width
 -- what parts the fields of the files that are read
 abbrev pub separator_of : Asked → ℕ
 separator_of asked = unwrap_or asked.separator 44
+
+-- how the records of the files of CSV stand in them
+abbrev pub dialect_of : Asked → Dialect
+dialect_of asked = record { separator = separator_of asked; quoting = not asked.no_quotes }
 
 -- what parts the fields of CSV that is written
 abbrev pub to_separator_of : Asked → ℕ
@@ -201,9 +212,9 @@ writing_of asked = record {
 }
 
 -- how the rows of a file are read
-abbrev pub format_of : ℕ → Kind → Format
-format_of separator kind.Csv = format.Csv (with_quotes separator)
-format_of separator kind.Json = format.Json
+abbrev pub format_of : Dialect → Kind → Format
+format_of dialect kind.Csv = format.Csv dialect
+format_of dialect kind.Json = format.Json
 
 -- a source as it is asked for: its format, its name, and nothing of its bytes
 abbrev pub named_source : Source → Format × (List ℕ × List ℕ)
@@ -215,9 +226,9 @@ script_of None true = Some (codes "-")
 script_of script is_alone = script
 
 -- files of rows, of which no byte is read
-abbrev pub unread_files : ℕ → List (Kind × List ℕ) → List (Format × (List ℕ × List ℕ))
-unread_files separator files = map (λ file. (format_of separator file.0, (file.1, []))) files
+abbrev pub unread_files : Dialect → List (Kind × List ℕ) → List (Format × (List ℕ × List ℕ))
+unread_files dialect files = map (λ file. (format_of dialect file.0, (file.1, []))) files
 
 -- the files of rows that are asked for, and nothing of their bytes
 abbrev pub files_of : Asked → List (Format × (List ℕ × List ℕ))
-files_of asked = unread_files (separator_of asked) asked.sources
+files_of asked = unread_files (dialect_of asked) asked.sources

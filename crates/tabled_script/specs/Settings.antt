@@ -24,6 +24,7 @@ name_of setting.Columns = codes "--columns"
 name_of (setting.Rows kind.Csv) = codes "--csv"
 name_of (setting.Rows kind.Json) = codes "--json"
 name_of setting.Separator = codes "--separator"
+name_of setting.NoQuotes = codes "--no-quotes"
 name_of setting.ToSeparator = codes "--to-separator"
 name_of setting.Strings = codes "--strings"
 name_of setting.Header = codes "--header"
@@ -44,6 +45,7 @@ options =
     ∷ (codes "--csv", setting.Rows kind.Csv)
     ∷ (codes "--json", setting.Rows kind.Json)
     ∷ (codes "--separator", setting.Separator)
+    ∷ (codes "--no-quotes", setting.NoQuotes)
     ∷ (codes "--to-separator", setting.ToSeparator)
     ∷ (codes "--strings", setting.Strings)
     ∷ (codes "--header", setting.Header)
@@ -65,6 +67,11 @@ forms =
     ∷ (codes "html-page", written.HtmlPage)
     ∷ []
 
+-- the rows of a file are CSV
+abbrev pub is_csv : Kind → Bool
+is_csv kind.Csv = true
+is_csv kind.Json = false
+
 -- what a list has for a name
 abbrev pub named_in : {A : Type 0} → List (List ℕ × A) → List ℕ → Option A
 named_in [] name = None
@@ -73,6 +80,7 @@ named_in (named ∷ others) name = if bytes_eq name named.0 then Some named.1 el
 -- a value stands behind the option
 abbrev pub takes_value : Setting → Bool
 takes_value setting.Picture = false
+takes_value setting.NoQuotes = false
 takes_value setting.Strings = false
 takes_value setting.Checks = false
 takes_value other = true

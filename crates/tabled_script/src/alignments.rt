@@ -160,7 +160,14 @@ impl Rule {
                 None
             }
             Rule::Name(name, alignment) => {
-                if text_in(records, Position { row: 0, col: column }) == name.as_str() {
+                if text_in(
+                    records,
+                    Position {
+                        row: 0,
+                        col: column,
+                    },
+                ) == name.as_str()
+                {
                     return Some(*alignment);
                 }
                 None

@@ -45,6 +45,9 @@ pub struct Arguments {
     pub(crate) columns: Option<usize>,
     pub(crate) sources: Vec<(Kind, String)>,
     pub(crate) separator: Option<Separator>,
+    pub(crate) no_quotes: bool,
+    /// Whether one of the files that are read is CSV.
+    pub(crate) reads_csv: bool,
     pub(crate) to_separator: Option<Separator>,
     pub(crate) strings: bool,
     pub(crate) header: Option<usize>,
@@ -78,6 +81,8 @@ impl Model for Arguments {
       columns = a.columns;
       sources = named_files a.sources.items;
       separator = a.separator;
+      no_quotes = a.no_quotes;
+      reads_csv = a.reads_csv;
       to_separator = a.to_separator;
       strings = a.strings;
       header = a.header;
@@ -106,6 +111,8 @@ impl Arguments {
             columns: None,
             sources: Vec::new(alloc),
             separator: None,
+            no_quotes: false,
+            reads_csv: false,
             to_separator: None,
             strings: false,
             header: None,
@@ -154,6 +161,10 @@ impl Arguments {
             None => Err(misused(alloc, Misuse::NoOption, option)),
             Some(Setting::Picture) => {
                 self.draws = true;
+                Ok(self)
+            }
+            Some(Setting::NoQuotes) => {
+                self.no_quotes = true;
                 Ok(self)
             }
             Some(Setting::Strings) => {
@@ -249,8 +260,9 @@ impl Arguments {
             Setting::Rows(kind) => {
                 self.sources.push((kind, String::from_str(alloc, value)?))?;
                 self.reads_input = self.reads_input || is_input(value);
+                self.reads_csv = self.reads_csv || kind.is_csv();
             }
-            Setting::Picture | Setting::Strings | Setting::Checks => {}
+            Setting::Picture | Setting::NoQuotes | Setting::Strings | Setting::Checks => {}
         }
         Ok(())
     }
@@ -278,6 +290,7 @@ impl Arguments {
             Setting::Columns => self.columns.is_some(),
             Setting::Rows(_) => false,
             Setting::Separator => self.separator.is_some(),
+            Setting::NoQuotes => self.no_quotes,
             Setting::ToSeparator => self.to_separator.is_some(),
             Setting::Strings => self.strings,
             Setting::Header => self.header.is_some(),

@@ -2,11 +2,11 @@
 
 ghost use Rattle.std.specs.List.{find};
 ghost use Rattle.std.specs.Option.{option_map, unwrap_or};
-ghost use Rattle.std.specs.Prelude.{◌≡◌, ◌++◌, ◌&&◌, ◌==◌, [], IfErr, IfOk, None, length, map, not};
+ghost use Rattle.std.specs.Prelude.{◌≡◌, ◌++◌, ◌&&◌, ◌==◌, [], IfErr, IfOk, None, false, length, map, not};
 ghost use Rattle.std.specs.String.{string_bytes};
 ghost use Rattle.tabled_script.specs.Aligners.{listed};
 ghost use Rattle.tabled_script.specs.Arguments.{is_set, named_files, step_of, words_of};
-ghost use Rattle.tabled_script.specs.Requests.{IsForm, IsUnmade, awaited, contradiction, deciding, drawn_of, files_of, format_of, goes_with, named_source, says_html, says_something, script_of, separator_of, settings_of_forms, to_separator_of, unread_files, values_of, writing_of, width_of, written_of};
+ghost use Rattle.tabled_script.specs.Requests.{IsForm, IsUnmade, awaited, contradiction, deciding, dialect_of, drawn_of, files_of, format_of, goes_with, lacks_csv, named_source, says_html, says_something, script_of, separator_of, settings_of_forms, to_separator_of, unread_files, values_of, writing_of, width_of, written_of};
 
 use crate::alignments::Alignments;
 use crate::arguments::{Arguments, Next, push_step};
@@ -47,10 +47,11 @@ const SETTINGS_OF_FORMS: [Setting; 9] = [
 ];
 
 impl Arguments {
-    /// What was asked for. The bytes of files are not read yet. It is refused where the last option lacks its value, or two
-    /// contradict each other.
+    /// What was asked for. The bytes of files are not read yet. It is refused where the last option lacks its value, two
+    /// contradict each other, or one says how CSV is read and there is none.
     pub fn into_invocation(self, alloc: Global) -> Result<Invocation, Refusal>
         ensures whole { IfOk result (λ _. awaited self.next ≡ None) }
+        ensures read { IfOk result (λ _. lacks_csv self ≡ false) }
         ensures agrees { IfOk result (λ _. contradiction self ≡ None) }
         ensures form { IfOk result (λ invocation. IsForm (writing_of self) invocation.request.form) }
         ensures sources { IfOk result (λ invocation. map named_source invocation.request.sources.items ≡ files_of self) }
@@ -66,10 +67,13 @@ impl Arguments {
         if let Some((first, other)) = self.contradiction() {
             return Err(Refusal::Contradictory(first, other));
         }
+        if self.lacks_csv() {
+            return Err(Refusal::NoCsv);
+        }
         let written = self.written();
         let look = self.look();
         let width = self.picture_width();
-        let separator = self.read_separator();
+        let dialect = self.dialect();
         let to_separator = self.written_separator();
         let values = self.values();
         let header = self.header_rows();
@@ -98,7 +102,7 @@ impl Arguments {
             header,
             caption,
         );
-        let sources = unread(alloc, sources, separator)?;
+        let sources = unread(alloc, sources, dialect)?;
         Ok(Invocation {
             request: Request {
                 form,
@@ -139,6 +143,20 @@ impl Arguments {
             Some(separator) => separator,
             None => Separator::comma(),
         }
+    }
+
+    /// How the records of the files of CSV stand in them.
+    fn dialect(&self) -> Dialect
+        ensures { result ≡ dialect_of self.now }
+    {
+        Dialect::new(self.read_separator()).quoting(!self.no_quotes)
+    }
+
+    /// Says whether it is said how CSV is read, and there is none.
+    fn lacks_csv(&self) -> bool
+        ensures { result ≡ lacks_csv self.now }
+    {
+        self.no_quotes && !self.reads_csv
     }
 
     /// What parts the fields of CSV that is written.
@@ -331,15 +349,15 @@ fn script_of(
 fn unread(
     alloc: Global,
     files: Vec<(Kind, String)>,
-    separator: Separator,
+    dialect: Dialect,
 ) -> Result<Vec<Source>, AllocError>
-    ensures { IfOk result (λ sources. map named_source sources.items ≡ unread_files separator (named_files files.items)) }
+    ensures { IfOk result (λ sources. map named_source sources.items ≡ unread_files dialect (named_files files.items)) }
 {
     let mut sources = Vec::new(alloc);
     for (kind, name) in files {
         sources.push(Source {
             name,
-            format: format_of(kind, separator),
+            format: format_of(kind, dialect),
             bytes: Vec::new(alloc),
         })?;
     }
@@ -347,11 +365,11 @@ fn unread(
 }
 
 /// How the rows of a file are read.
-fn format_of(kind: Kind, separator: Separator) -> Format
-    ensures { result ≡ format_of separator kind }
+fn format_of(kind: Kind, dialect: Dialect) -> Format
+    ensures { result ≡ format_of dialect kind }
 {
     match kind {
-        Kind::Csv => Format::Csv(Dialect::new(separator)),
+        Kind::Csv => Format::Csv(dialect),
         Kind::Json => Format::Json,
     }
 }

@@ -28,6 +28,8 @@ pub enum Refusal {
     NoValue(Setting),
     /// Two options contradict each other.
     Contradictory(Setting, Setting),
+    /// It is said how CSV is read, and there is none.
+    NoCsv,
     /// An argument isn't UTF-8.
     NotText,
     /// No script comes in: standard input is a terminal.
@@ -123,6 +125,7 @@ impl Refusal {
             Refusal::Misused(_, _)
             | Refusal::NoValue(_)
             | Refusal::Contradictory(_, _)
+            | Refusal::NoCsv
             | Refusal::NotText
             | Refusal::Terminal => REFUSED,
             Refusal::Failed(_, _) => FAILED,
@@ -151,6 +154,9 @@ impl Refusal {
                 let (first, other) = (first.name(), other.name());
                 format!(in alloc; "{first} and {other} contradict each other")
             }
+            Refusal::NoCsv => format!(in alloc;
+                "--no-quotes says how the files of --csv are read, and there is none"
+            ),
             Refusal::NotText => format!(in alloc; "an argument isn't UTF-8"),
             Refusal::Terminal => format!(in alloc;
                 "a script comes in by standard input, which is a terminal here: write ./tabled_script [OPTIONS] [STEP [then STEP]..] < SCRIPT; --help tells the rest"
@@ -274,7 +280,7 @@ fn value_text(alloc: Global, setting: Setting, value: &str) -> Result<String, Al
             let option = setting.name();
             format!(in alloc; "no name of a file stands behind {option}")
         }
-        Setting::Picture | Setting::Strings | Setting::Checks => {
+        Setting::Picture | Setting::NoQuotes | Setting::Strings | Setting::Checks => {
             let option = setting.name();
             format!(in alloc; "{option} takes no value")
         }

@@ -2,7 +2,7 @@
 
 ghost use Rattle.std.specs.Option.{option_map};
 ghost use Rattle.std.specs.Prelude.{◌≡◌};
-ghost use Rattle.tabled_script.specs.Settings.{drawn_named, forms, name_of, named_in, options, read_by, separator_of, takes_value};
+ghost use Rattle.tabled_script.specs.Settings.{drawn_named, forms, is_csv, name_of, named_in, options, read_by, separator_of, takes_value};
 ghost use Rattle.tabled_script.specs.declared.setting.Setting.TheVariants as setting;
 
 use tabled_csv::Separator;
@@ -29,6 +29,8 @@ pub enum Setting {
     Rows(Kind),
     /// What parts the fields of the files that are read.
     Separator,
+    /// That quotes are characters like others in CSV that is read.
+    NoQuotes,
     /// What parts the fields of CSV that is written.
     ToSeparator,
     /// That all values of JSON that is written are strings.
@@ -74,7 +76,7 @@ pub(crate) enum Drawn {
 }
 
 /// The names of the options, those of what is told in place of a table, too.
-pub(crate) const OPTIONS: [&'static str; 20] = [
+pub(crate) const OPTIONS: [&'static str; 21] = [
     "--to",
     "--draw",
     "--style",
@@ -84,6 +86,7 @@ pub(crate) const OPTIONS: [&'static str; 20] = [
     "--csv",
     "--json",
     "--separator",
+    "--no-quotes",
     "--to-separator",
     "--strings",
     "--header",
@@ -115,6 +118,7 @@ impl Setting {
             "--csv" => Some(Setting::Rows(Kind::Csv)),
             "--json" => Some(Setting::Rows(Kind::Json)),
             "--separator" => Some(Setting::Separator),
+            "--no-quotes" => Some(Setting::NoQuotes),
             "--to-separator" => Some(Setting::ToSeparator),
             "--strings" => Some(Setting::Strings),
             "--header" => Some(Setting::Header),
@@ -139,6 +143,7 @@ impl Setting {
             Setting::Columns => "--columns",
             Setting::Rows(kind) => kind.option(),
             Setting::Separator => "--separator",
+            Setting::NoQuotes => "--no-quotes",
             Setting::ToSeparator => "--to-separator",
             Setting::Strings => "--strings",
             Setting::Header => "--header",
@@ -153,11 +158,20 @@ impl Setting {
     pub(crate) fn takes_value(self) -> bool
         ensures { result ≡ takes_value self }
     {
-        !matches!(self, Setting::Picture | Setting::Strings | Setting::Checks)
+        !matches!(
+            self,
+            Setting::Picture | Setting::NoQuotes | Setting::Strings | Setting::Checks
+        )
     }
 }
 
 impl Kind {
+    pub(crate) fn is_csv(self) -> bool
+        ensures { result ≡ is_csv self }
+    {
+        matches!(self, Kind::Csv)
+    }
+
     /// The option that reads a file of it.
     fn option(self) -> &'static str
         ensures { result.now ≡ name_of (setting.Rows self) }

@@ -349,6 +349,15 @@ fn arguments_ask_for_steps_and_forms(rt: HostRuntime) -> Result<(), Fail> {
             "shape\t2\t1\nrow\th\nrow\ta\n",
             "tabled_script: step 2: no column is named 'a': the first row has 'h'\n",
         ),
+        // Quotes that are characters like others.
+        (
+            "--no-quotes|--separator|tab|--csv|f",
+            "\"a\tb\"\"\n\"\t\"\tc",
+            "",
+            0,
+            "shape\t2\t3\nrow\t\"a\tb\"\"\t\nrow\t\"\t\"\tc\n",
+            "",
+        ),
         // Columns are aligned by what stands in them, by names, or by both: the last rule that says something counts.
         (
             "--csv|f|--align|auto",
@@ -531,6 +540,11 @@ fn what_cannot_be_asked_is_refused(rt: HostRuntime) -> Result<(), Fail> {
             "--align|a=lr",
             "columns are aligned by letters, as llr, by auto, or by names, as Price=r,Region=c, not by a=lr",
         ),
+        (
+            "--json|f|--no-quotes|--to|csv",
+            "--no-quotes says how the files of --csv are read, and there is none",
+        ),
+        ("--no-quotes=yes", "--no-quotes takes no value"),
         (
             "--to|csv|--align|auto",
             "--to and --align contradict each other",

@@ -4,4 +4,4 @@ use Rattle.tabled_script.specs.Arguments.{named_files}
 use Rattle.tabled_script.specs.Requests.{named_source, unread_files}
 
 abbrev pub invariant-loop-kind : goal.invariant-loop-kind
-invariant-loop-kind l = map named_source l.sources.items ≡ unread_files l.fn.separator (named_files l.yielded)
+invariant-loop-kind l = map named_source l.sources.items ≡ unread_files l.fn.dialect (named_files l.yielded)

@@ -4,6 +4,8 @@ use Rattle.std.specs.Prelude.{Bool}
 use Rattle.std.specs.String.{string_bytes}
 use Rattle.tabled_script.proofs.Common.{[], ◌∙◌, List, Option, ap, ap₂, ℕ}
 use Rattle.tabled_script.proofs.Taken.{written_so}
+use Rattle.tabled_csv.specs.Grammar.{Dialect}
+use Rattle.tabled_script.specs.Aligners.{listed}
 use Rattle.tabled_script.specs.Arguments.{Asked}
 use Rattle.tabled_script.specs.Requests.{script_of, unread_files}
 use Rattle.tabled_script.specs.declared.setting.Kind.{Kind}
@@ -11,16 +13,16 @@ use Rattle.tabled_script.proofs.arguments.Arguments.into_invocation.Goals as goa
 
 pub returns-clause-form : goal.returns-clause-form
 returns-clause-form c =
-    written_so c.args.self c.written-written.result c.look-look.result c.picture_width-width.result c.listed-alignments.result.items c.written_separator-to_separator.result c.values-values.result
+    written_so c.args.self c.written-written.result c.look-look.result c.picture_width-width.result c.aligned-alignments.result c.written_separator-to_separator.result c.values-values.result
     c.header_rows-header.result (option_map string_bytes c.self.inside.caption) c.form_of-form.result c.form_of-form.ensures
     c.written-written.ensures c.look-look.ensures c.picture_width-width.ensures
-    (c.listed-alignments.ensures ∙ ap (λ (a : Asked). unwrap_or a.alignments []) c.self.view_is)
+    (c.aligned-alignments.ensures ∙ ap (λ (a : Asked). unwrap_or a.alignments (listed [])) c.self.view_is)
     c.written_separator-to_separator.ensures c.values-values.ensures c.header_rows-header.ensures (ap (λ (a : Asked). a.caption) c.self.view_is)
 
 pub returns-clause-sources : goal.returns-clause-sources
 returns-clause-sources c =
     c.in_ok-sources.ensures
-    ∙ ap₂ (λ (separator : ℕ) (files : List (Kind × List ℕ)). unread_files separator files) c.read_separator-separator.ensures (ap (λ (a : Asked). a.sources) c.self.view_is)
+    ∙ ap₂ (λ (dialect : Dialect) (files : List (Kind × List ℕ)). unread_files dialect files) c.dialect-dialect.ensures (ap (λ (a : Asked). a.sources) c.self.view_is)
 
 pub returns-clause-script : goal.returns-clause-script
 returns-clause-script c =
