@@ -6,15 +6,16 @@ use Rattle.std.specs.List.{AllByRecursion}
 use Rattle.std.specs.Option.{option_map}
 use Rattle.tabled_grid.proofs.Common.{[], ◌+◌, In, not, ◌-◌, ◌<◌, ◌∙◌, ◌∷◌, ◌≡◌, ◌≤◌, ◌⊎◌, Bool, Fits, Grid, List, None, Option, Some, SpanMap, all-append, and_from, and_parts, ap, ap₂, arith, cases_lt, cond, cond-false, cond-true, crosses_line, eq-eqb, false, false_from_ne_true, false≢true, get, inl, inr, is_crossed, is_hidden, leb-true, lt-ltb, place, rectangle, rectangles, refl, size_at, subst, suc, sym, true, zero, ℕ}
 use Rattle.tabled_grid.proofs.Grids.{cell_at-map_grid}
-use Rattle.tabled_grid.proofs.Members.{Member, any-from, get-member, member-get}
-use Rattle.tabled_grid.proofs.SpanMaps.{hidden_by, size_at-none, size_at-some}
+use Rattle.tabled_grid.proofs.Members.{Member, any-from, member-get}
+use Rattle.tabled_grid.proofs.SpanMaps.{size_at-none, size_at-some}
 use Rattle.tabled_grid.specs.Grid.{IsEmptyWithoutRows, cell_at, map_grid}
 use Rattle.tabled_grid.specs.declared.config.position.Position.{Position}
 use Rattle.tabled_grid.specs.declared.config.rectangle.Rectangle.{Rectangle}
 use Rattle.tabled_grid.specs.declared.config.size.Size.{Size}
 use Rattle.tabled_grid.specs.declared.records.axis.Axis.TheVariants.{Rows}
+use Rattle.tabled_html.proofs.Ends.{hidden-apart}
 use Rattle.tabled_html.proofs.Attributes.{cell-apart, cell-plain, cell-spans, class-apart, class-plain, colspan-is, rowspan-is}
-use Rattle.tabled_grid.proofs.Owners.{LieWell, Owned, fits-well, member-owner, owned, owner-begins, owner-holds, owner-lies, owner-self, owner-shared}
+use Rattle.tabled_grid.proofs.Owners.{LieWell, fits-well, owned, owner-begins, owner-holds, owner-lies, owner-self, owner-shared}
 use Rattle.tabled_grid.proofs.Owners.Owned.{alone, held}
 use Rattle.tabled_html.proofs.Within.{written-fits, written-within}
 use Rattle.tabled_html.specs.Elements.{begun_at, element, element_at, fragment, group, groups_of, has_head, row_of, rows_of, table, text_of_cell}
@@ -67,12 +68,6 @@ module _ (g : Grid (List ℕ)) (m : SpanMap) (look : Look) (fits : Fits m g.rows
 
   -- ---- the written rows
 
-  hidden-apart : (p : Position) → is_hidden m p ≡ true → (owner_in (rectangles m) p).first ≡ p → ⊥
-  hidden-apart p hidden same =
-      let other = hidden_by m p hidden in
-      let member : Member (rectangle other.anchor other.size) (rectangles m) = get-member m (rectangle other.anchor other.size) other.has in
-      other.other (sym (ap (λ (o : Rectangle). o.first) (member-owner well (rectangle other.anchor other.size) p member other.holds)) ∙ same)
-
   at-place : (i j : ℕ) → elements_at (own_area m) (element_of g look) i j ≡ begun_at g m look (place i j)
   at-place i j = of-place (is_hidden m (place i j)) refl
     where
@@ -83,7 +78,7 @@ module _ (g : Grid (List ℕ)) (m : SpanMap) (look : Look) (fits : Fits m g.rows
       here a b t = grind (arith, nat_tests)
 
       of-hidden : is_hidden m (place i j) ≡ true → elements_at (own_area m) (element_of g look) i j ≡ []
-      of-hidden hidden = cond-false _ _ _ (false_from_ne_true (begins (own_area m) j i) (λ t. (let parts = and_parts _ _ t in hidden-apart (place i j) hidden (ap₂ place (here o.first.row i parts.1) (here o.first.col j parts.0)))))
+      of-hidden hidden = cond-false _ _ _ (false_from_ne_true (begins (own_area m) j i) (λ t. (let parts = and_parts _ _ t in hidden-apart m g.rows g.columns fits (place i j) hidden (ap₂ place (here o.first.row i parts.1) (here o.first.col j parts.0)))))
 
       of-seen : is_hidden m (place i j) ≡ false → elements_at (own_area m) (element_of g look) i j ≡ element_at g look (place i j) (size_at m (place i j)) ∷ []
       of-seen seen =

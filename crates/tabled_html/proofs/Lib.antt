@@ -1,4 +1,5 @@
 pub mod Attributes
+pub mod Ends
 pub mod Grids
 pub mod Sent
 pub mod Within

@@ -1,4 +1,5 @@
 pub mod Elements
+pub mod Ends
 pub mod Laws
 pub mod Limits
 pub mod Looks

@@ -1,29 +1,39 @@
 //! Rows of HTML, written.
 
 ghost use Rattle.std.specs.List.{flat_map};
-ghost use Rattle.std.specs.Prelude.{◌≡◌, ◌+◌, ◌<◌, ◌≤◌, ◌^◌, IsTrue};
-ghost use Rattle.tabled_grid.specs.Covers.{IsCoverOf};
-ghost use Rattle.tabled_grid.specs.Entity.{place};
+ghost use Rattle.std.specs.Prelude.{◌≡◌, ◌&&◌, ◌+◌, ◌<◌, ◌≤◌, ◌^◌, if◌then◌else◌, ℕ, IsTrue, length, nat_le, nat_lt, slice_index_or};
+ghost use Rattle.tabled_grid.specs.Fitting.{Fits};
 ghost use Rattle.tabled_grid.specs.Grid.{IsInside, map_grid};
-ghost use Rattle.tabled_grid.specs.Spans.{rectangle, sized};
 ghost use Rattle.tabled_held.specs.Pens.{Sends};
 ghost use Rattle.tabled_html.specs.Elements.{begun_at, group, groups_of, has_head, row_of, rows_of};
+ghost use Rattle.tabled_html.specs.Ends.{AreEnds};
 ghost use Rattle.tabled_html_reading.specs.Bytes.{cell_bytes, group_bytes, group_end, group_start, row_bytes};
 
 use crate::cells::write_cell;
 use crate::page::Page;
 use std::io::Write;
-use tabled_grid::config::{CoverMap, Position, SpannedConfig};
+use tabled_grid::config::{Position, SpannedConfig};
 use tabled_grid::records::{Axis, CellText, ExactRecords, PeekableRecords, Records};
 use tabled_held::Pen;
 
-/// Writes the cell that begins at a place, if one does.
+/// Says of some columns in which row their last cell ends.
+fn end_at(ends: &mut [usize], first: usize, count: usize, row: usize)
+    requires inside { first + count ≤ length ends.old }
+    ensures long { length ends.new ≡ length ends.old }
+    ensures ends { (x : ℕ) → slice_index_or ends.new x 0 ≡ (if nat_le first x && nat_lt x (first + count) then row else slice_index_or ends.old x 0) }
+{
+    for x in first..first + count {
+        ends[x] = row;
+    }
+}
+
+/// Writes the cell that begins at a place, if one does. It is known of each column where its last cell ends.
 fn write_place<W, R>(
     pen: &mut Pen<'_, W>,
     records: &R,
     page: &Page<'_>,
     spans: &SpannedConfig,
-    cover: &CoverMap,
+    ends: &mut [usize],
     pos: Position,
 )
 where
@@ -32,18 +42,22 @@ where
     R::Cell: CellText,
     requires well { R.is_well_formed records.now }
     requires inside { IsInside (R.grid records.now) pos }
-    requires block { cover.now.block ≡ rectangle (place 0 0) (sized (R.grid records.now).rows (R.grid records.now).columns) }
-    requires cover { IsCoverOf spans.now cover.now }
-    ensures { Sends W.contents pen.old pen.new (flat_map cell_bytes (begun_at (map_grid R.Cell.text_of (R.grid records.now)) spans.now page.now pos)) }
+    requires numbered { (R.grid records.now).rows < 2 ^ 64 }
+    requires fits { Fits spans.now (R.grid records.now).rows (R.grid records.now).columns }
+    requires ends { AreEnds spans.now (R.grid records.now).rows (R.grid records.now).columns pos.row pos.col ends.old }
+    ensures sent { Sends W.contents pen.old pen.new (flat_map cell_bytes (begun_at (map_grid R.Cell.text_of (R.grid records.now)) spans.now page.now pos)) }
+    ensures ends { AreEnds spans.now (R.grid records.now).rows (R.grid records.now).columns pos.row (pos.col + 1) ends.new }
 {
-    if cover.is_hidden(pos) {
+    if pos.row < ends[pos.col] {
         return;
     }
+    let size = spans.size(pos);
+    end_at(ends, pos.col, size.width, pos.row + size.height);
     write_cell(
         pen,
         pos.row < page.header_rows(),
         page.alignment(pos.col),
-        spans.size(pos),
+        size,
         records.get_text(pos).as_bytes(),
     );
 }
@@ -54,7 +68,7 @@ fn write_row<W, R>(
     records: &R,
     page: &Page<'_>,
     spans: &SpannedConfig,
-    cover: &CoverMap,
+    ends: &mut [usize],
     i: usize,
 )
 where
@@ -63,20 +77,15 @@ where
     R::Cell: CellText,
     requires well { R.is_well_formed records.now }
     requires row { i < (R.grid records.now).rows }
-    requires block { cover.now.block ≡ rectangle (place 0 0) (sized (R.grid records.now).rows (R.grid records.now).columns) }
-    requires cover { IsCoverOf spans.now cover.now }
-    ensures { Sends W.contents pen.old pen.new (row_bytes (row_of (map_grid R.Cell.text_of (R.grid records.now)) spans.now page.now i)) }
+    requires numbered { (R.grid records.now).rows < 2 ^ 64 }
+    requires fits { Fits spans.now (R.grid records.now).rows (R.grid records.now).columns }
+    requires ends { AreEnds spans.now (R.grid records.now).rows (R.grid records.now).columns i 0 ends.old }
+    ensures sent { Sends W.contents pen.old pen.new (row_bytes (row_of (map_grid R.Cell.text_of (R.grid records.now)) spans.now page.now i)) }
+    ensures ends { AreEnds spans.now (R.grid records.now).rows (R.grid records.now).columns (i + 1) 0 ends.new }
 {
     pen.send(b"<tr>");
     for j in 0..records.count_columns() {
-        write_place(
-            pen,
-            records,
-            page,
-            spans,
-            cover,
-            Position { row: i, col: j },
-        );
+        write_place(pen, records, page, spans, ends, Position { row: i, col: j });
     }
     pen.send(b"</tr>\n");
 }
@@ -87,7 +96,7 @@ fn write_rows<W, R>(
     records: &R,
     page: &Page<'_>,
     spans: &SpannedConfig,
-    cover: &CoverMap,
+    ends: &mut [usize],
     first: usize,
     count: usize,
 )
@@ -97,13 +106,14 @@ where
     R::Cell: CellText,
     requires well { R.is_well_formed records.now }
     requires rows { first + count ≤ (R.grid records.now).rows }
-    requires numbered { first + count < 2 ^ 64 }
-    requires block { cover.now.block ≡ rectangle (place 0 0) (sized (R.grid records.now).rows (R.grid records.now).columns) }
-    requires cover { IsCoverOf spans.now cover.now }
-    ensures { Sends W.contents pen.old pen.new (flat_map row_bytes (rows_of (map_grid R.Cell.text_of (R.grid records.now)) spans.now page.now first count)) }
+    requires numbered { (R.grid records.now).rows < 2 ^ 64 }
+    requires fits { Fits spans.now (R.grid records.now).rows (R.grid records.now).columns }
+    requires ends { AreEnds spans.now (R.grid records.now).rows (R.grid records.now).columns first 0 ends.old }
+    ensures sent { Sends W.contents pen.old pen.new (flat_map row_bytes (rows_of (map_grid R.Cell.text_of (R.grid records.now)) spans.now page.now first count)) }
+    ensures ends { AreEnds spans.now (R.grid records.now).rows (R.grid records.now).columns (first + count) 0 ends.new }
 {
     for k in 0..count {
-        write_row(pen, records, page, spans, cover, first + k);
+        write_row(pen, records, page, spans, ends, first + k);
     }
 }
 
@@ -135,7 +145,7 @@ fn write_group<W, R>(
     records: &R,
     page: &Page<'_>,
     spans: &SpannedConfig,
-    cover: &CoverMap,
+    ends: &mut [usize],
     is_head: bool,
     first: usize,
     count: usize,
@@ -146,13 +156,14 @@ where
     R::Cell: CellText,
     requires well { R.is_well_formed records.now }
     requires rows { first + count ≤ (R.grid records.now).rows }
-    requires numbered { first + count < 2 ^ 64 }
-    requires block { cover.now.block ≡ rectangle (place 0 0) (sized (R.grid records.now).rows (R.grid records.now).columns) }
-    requires cover { IsCoverOf spans.now cover.now }
-    ensures { Sends W.contents pen.old pen.new (group_bytes (group is_head (rows_of (map_grid R.Cell.text_of (R.grid records.now)) spans.now page.now first count))) }
+    requires numbered { (R.grid records.now).rows < 2 ^ 64 }
+    requires fits { Fits spans.now (R.grid records.now).rows (R.grid records.now).columns }
+    requires ends { AreEnds spans.now (R.grid records.now).rows (R.grid records.now).columns first 0 ends.old }
+    ensures sent { Sends W.contents pen.old pen.new (group_bytes (group is_head (rows_of (map_grid R.Cell.text_of (R.grid records.now)) spans.now page.now first count))) }
+    ensures ends { AreEnds spans.now (R.grid records.now).rows (R.grid records.now).columns (first + count) 0 ends.new }
 {
     write_start(pen, is_head);
-    write_rows(pen, records, page, spans, cover, first, count);
+    write_rows(pen, records, page, spans, ends, first, count);
     write_end(pen, is_head);
 }
 
@@ -170,32 +181,32 @@ pub(crate) fn write_groups<W, R>(
     records: &R,
     page: &Page<'_>,
     spans: &SpannedConfig,
-    cover: &CoverMap,
+    ends: &mut [usize],
 )
 where
     W: Write,
     R: Records + ExactRecords + PeekableRecords,
     R::Cell: CellText,
     requires well { R.is_well_formed records.now }
-    requires block { cover.now.block ≡ rectangle (place 0 0) (sized (R.grid records.now).rows (R.grid records.now).columns) }
-    requires cover { IsCoverOf spans.now cover.now }
+    requires fits { Fits spans.now (R.grid records.now).rows (R.grid records.now).columns }
+    requires ends { AreEnds spans.now (R.grid records.now).rows (R.grid records.now).columns 0 0 ends.old }
     ensures { Sends W.contents pen.old pen.new (flat_map group_bytes (groups_of (map_grid R.Cell.text_of (R.grid records.now)) spans.now page.now)) }
 {
     let rows = records.count_rows();
     let header = page.header_rows();
     if has_head(spans, rows, header) {
-        write_group(pen, records, page, spans, cover, true, 0, header);
+        write_group(pen, records, page, spans, ends, true, 0, header);
         write_group(
             pen,
             records,
             page,
             spans,
-            cover,
+            ends,
             false,
             header,
             rows - header,
         );
         return;
     }
-    write_group(pen, records, page, spans, cover, false, 0, rows);
+    write_group(pen, records, page, spans, ends, false, 0, rows);
 }

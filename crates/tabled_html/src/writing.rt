@@ -5,13 +5,12 @@ ghost use Rattle.std.specs.Io.KnownBytes.{Appends};
 ghost use Rattle.std.specs.List.{flat_map, list_all};
 ghost use Rattle.std.specs.Option.{option_map};
 ghost use Rattle.std.specs.Prelude.{◌≡◌, Err, List, OnOk, Some, ℕ};
-ghost use Rattle.tabled_grid.specs.Covers.{IsCoverOf};
-ghost use Rattle.tabled_grid.specs.Entity.{place};
+ghost use Rattle.tabled_grid.specs.Fitting.{Fits};
 ghost use Rattle.tabled_grid.specs.Grid.{IsEmptyWithoutRows, map_grid};
-ghost use Rattle.tabled_grid.specs.Spans.{rectangle, sized};
 ghost use Rattle.tabled_held.specs.Pens.{Sends};
 ghost use Rattle.tabled_held.specs.Sent.{IsCutShort};
 ghost use Rattle.tabled_html.specs.Elements.{class_attribute, fragment, framed, html, page_end, page_start, table};
+ghost use Rattle.tabled_html.specs.Ends.{AreEnds};
 ghost use Rattle.tabled_html.specs.Laws.{OnFailed, Shows};
 ghost use Rattle.tabled_html.specs.Limits.{keep_written};
 ghost use Rattle.tabled_html.specs.Looks.{plain_look};
@@ -26,7 +25,7 @@ use crate::page::Page;
 use crate::rows::write_groups;
 use std::alloc::Global;
 use std::io::Write;
-use tabled_grid::config::{CoverMap, SpannedConfig};
+use tabled_grid::config::SpannedConfig;
 use tabled_grid::records::{CellText, ExactRecords, PeekableRecords, Records};
 use tabled_held::{Held, Pen};
 
@@ -76,22 +75,22 @@ fn write_table<W, R>(
     records: &R,
     page: &Page<'_>,
     spans: &SpannedConfig,
-    cover: &CoverMap,
+    ends: &mut [usize],
 )
 where
     W: Write,
     R: Records + ExactRecords + PeekableRecords,
     R::Cell: CellText,
     requires well { R.is_well_formed records.now }
-    requires block { cover.now.block ≡ rectangle (place 0 0) (sized (R.grid records.now).rows (R.grid records.now).columns) }
-    requires cover { IsCoverOf spans.now cover.now }
+    requires fits { Fits spans.now (R.grid records.now).rows (R.grid records.now).columns }
+    requires ends { AreEnds spans.now (R.grid records.now).rows (R.grid records.now).columns 0 0 ends.old }
     ensures { Sends W.contents pen.old pen.new (table_bytes (table (map_grid R.Cell.text_of (R.grid records.now)) spans.now page.now)) }
 {
     pen.send(b"<table");
     write_class(pen, page.class_text());
     pen.send(b">\n");
     write_caption(pen, page.caption_text());
-    write_groups(pen, records, page, spans, cover);
+    write_groups(pen, records, page, spans, ends);
     pen.send(b"</table>\n");
 }
 
@@ -117,24 +116,24 @@ fn write_page<W, R>(
     records: &R,
     page: &Page<'_>,
     spans: &SpannedConfig,
-    cover: &CoverMap,
+    ends: &mut [usize],
 )
 where
     W: Write,
     R: Records + ExactRecords + PeekableRecords,
     R::Cell: CellText,
     requires well { R.is_well_formed records.now }
-    requires block { cover.now.block ≡ rectangle (place 0 0) (sized (R.grid records.now).rows (R.grid records.now).columns) }
-    requires cover { IsCoverOf spans.now cover.now }
+    requires fits { Fits spans.now (R.grid records.now).rows (R.grid records.now).columns }
+    requires ends { AreEnds spans.now (R.grid records.now).rows (R.grid records.now).columns 0 0 ends.old }
     ensures { Sends W.contents pen.old pen.new (framed page.now.is_whole (table_bytes (table (map_grid R.Cell.text_of (R.grid records.now)) spans.now page.now))) }
 {
     if page.is_whole() {
         write_page_start(pen);
-        write_table(pen, records, page, spans, cover);
+        write_table(pen, records, page, spans, ends);
         write_page_end(pen);
         return;
     }
-    write_table(pen, records, page, spans, cover);
+    write_table(pen, records, page, spans, ends);
 }
 
 /// Writes a table (`r x c`) as HTML: a `table` with a `tr` for each row and a `td` for each cell where it begins, with
@@ -199,10 +198,10 @@ where
     let rows = records.count_rows();
     let columns = records.count_columns();
     let spans = spans_written(alloc, cfg, rows, columns)?;
-    let cover = CoverMap::new(alloc, &spans, rows, columns)?;
+    let mut ends = vec![in alloc; 0; columns]?;
     let held = Held::new(alloc)?;
     let mut pen = Pen::new(writer, held);
-    write_page(&mut pen, records, page, &spans, &cover);
+    write_page(&mut pen, records, page, &spans, &mut ends);
     let (written, outcome) = pen.finish();
     // No effect: the proof reads here what the writer got.
     let _ = &*written;

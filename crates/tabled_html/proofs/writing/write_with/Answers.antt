@@ -1,9 +1,12 @@
-use Rattle.std.proofs.Common.{rules, ◌∙◌, ◌≡◌, ap, ap₂, subst}
+use Rattle.std.proofs.Common.{rules, ◌∙◌, ◌≡◌, ap, ap₂, subst, sym}
 use Rattle.std.specs.Io.KnownBytes.{Appends}
+use Rattle.tabled_grid.specs.Fitting.{Fits}
 use Rattle.tabled_grid.specs.Grid.{map_grid}
 use Rattle.tabled_held.proofs.Pens.{all-written, some-written}
 use Rattle.tabled_held.specs.Sent.{IsCutShort, Kept}
+use Rattle.tabled_html.proofs.Ends.{ends-none}
 use Rattle.tabled_html.proofs.Grids.{html-shows}
+use Rattle.tabled_html.proofs.Within.{written-fits}
 use Rattle.tabled_html.specs.Elements.{framed, html, table}
 use Rattle.tabled_html.specs.Limits.{keep_written}
 use Rattle.tabled_html_reading.specs.Bytes.{table_bytes}
@@ -36,3 +39,13 @@ returns-clause-failed g c =
     let spans : c.in_ok-spans.spans ≡ keep_written (g.R.GridStore.grid c.args.records.now).rows (g.R.GridStore.grid c.args.records.now).columns c.args.cfg.now = c.in_ok-spans.ensures ∙ ap₂ (λ r k. keep_written r k c.args.cfg.now) c.count_rows-rows.ensures.rows c.count_columns-columns.ensures.columns in
     let whole : IsCutShort (contents c.args.writer.now) (contents writer.now) (html (map_grid g.R.Cell.CellText.text_of (g.R.GridStore.grid c.args.records.now)) c.args.cfg.now c.args.page.now) = subst (λ m. IsCutShort (contents c.args.writer.now) (contents writer.now) (framed c.args.page.now.is_whole (table_bytes (table (map_grid g.R.Cell.CellText.text_of (g.R.GridStore.grid c.args.records.now)) m c.args.page.now)))) spans bytes in
     search rules
+
+pub write_page-requires : goal.write_page-requires
+write_page-requires g c =
+    let grid = g.R.GridStore.grid c.args.records.now in
+    let spans : c.in_ok-spans.spans ≡ keep_written grid.rows grid.columns c.args.cfg.now = c.in_ok-spans.ensures ∙ ap₂ (λ r k. keep_written r k c.args.cfg.now) c.count_rows-rows.ensures.rows c.count_columns-columns.ensures.columns in
+    record {
+      well = c.requires.well;
+      fits = subst (λ m. Fits m grid.rows grid.columns) (sym spans) (written-fits grid.rows grid.columns c.args.cfg.now);
+      ends = ends-none c.in_ok-spans.spans grid.rows grid.columns c.count_columns-columns.result c.deref_mut.result.now (c.deref_mut.ensures.value ∙ c.in_ok-ends.ensures.items_if_clones_equal (λ y e. e)) c.count_columns-columns.ensures.columns;
+    }
