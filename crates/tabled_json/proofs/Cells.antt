@@ -5,9 +5,8 @@ use Rattle.tabled_json.proofs.WholeValues.{value-unique, bracket-no-scalar}
 use Rattle.tabled_json.proofs.Scalars.{scalar-unique}
 use Rattle.tabled_json.proofs.Lists.{IsOne, elements-unique, elements-back}
 use Rattle.tabled_json.specs.Space.{NotBefore, behind_space}
-use Rattle.tabled_json.specs.Grammar.{CellAt, CellTextAt, KeyAt, MemberAt, ObjectAt, ScalarAt, ElementsAt, ListAt, before, opening}
-use Rattle.tabled_json.specs.WholeValues.{NoValueAt, OpensNothing}
-use Rattle.tabled_json.specs.declared.value.Kind.{Kind}
+use Rattle.tabled_json.specs.Grammar.{CellAt, CellTextAt, KeyAt, MemberAt, ObjectAt, ScalarAt, ElementsAt, ListAt, ValueAt, before}
+use Rattle.tabled_json.specs.WholeValues.{NoValueAt}
 
 pub text-unique : (bytes text after other behind : List ℕ) → CellTextAt bytes text after → CellTextAt bytes other behind → (text ≡ other) × (after ≡ behind)
 text-unique bytes text after other behind (CellTextAt.scalar s) (CellTextAt.scalar r) = scalar-unique bytes text after other behind s r
@@ -22,16 +21,10 @@ text-unique bytes text after other behind (CellTextAt.nested kind inner e v t) (
 pub not-utf8 : (bytes text after : List ℕ) → CellTextAt bytes text after → (IsUtf8 text → ⊥) → NoneAt CellAt bytes
 not-utf8 bytes text after is not other behind c = not (subst IsUtf8 (sym (text-unique bytes text after other behind is c.is).0) c.utf8)
 
-pub no-nested : (bytes : List ℕ) (kind : Kind) (inner : List ℕ) → bytes ≡ opening kind ∷ inner → NoValueAt bytes → NoneAt CellAt bytes
-no-nested bytes kind inner e none text after c = elim c.is [
-  | CellTextAt.scalar s ↦ bracket-no-scalar kind inner text after (subst (λ (l : List ℕ). ScalarAt l text after) e s)
-  | CellTextAt.nested other rest f v t ↦ none after v
-]
-
-pub no-cell : (bytes : List ℕ) → OpensNothing bytes → NoneAt ScalarAt bytes → NoneAt CellAt bytes
-no-cell bytes opens none text after c = elim c.is [
-  | CellTextAt.scalar s ↦ none text after s
-  | CellTextAt.nested kind inner f v t ↦ opens kind inner f
+pub no-cell-value : (bytes : List ℕ) → NoValueAt bytes → NoneAt CellAt bytes
+no-cell-value bytes none text after c = elim c.is [
+  | CellTextAt.scalar s ↦ none after (ValueAt.scalar text s)
+  | CellTextAt.nested kind inner e v t ↦ none after v
 ]
 
 pub member-none-key : (bytes : List ℕ) → NoneAt KeyAt bytes → NoneAt MemberAt bytes

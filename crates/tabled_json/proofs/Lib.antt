@@ -19,3 +19,6 @@ pub mod Taken
 pub mod Tabled
 pub mod WrittenRows
 pub mod Meaning
+pub mod Faulty
+pub mod Once
+pub mod Told

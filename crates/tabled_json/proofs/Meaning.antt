@@ -30,7 +30,7 @@ row-not-close : (rest : List ℕ) → NoneAt RowAt (93 ∷ rest)
 row-not-close rest texts after (ListAt.none inner e f g) = let k : ◌≡◌ {A = ℕ} 93 91 = heads 93 91 rest inner e in omega arith
 row-not-close rest texts after (ListAt.some inner e d) = let k : ◌≡◌ {A = ℕ} 93 91 = heads 93 91 rest inner e in omega arith
 
-one-rows : IsOne (ListAt RowAt 91 93)
+pub one-rows : IsOne (ListAt RowAt 91 93)
 one-rows = one-list RowAt 91 93 one-row (λ e. omega arith) row-not-close
 
 pub no-rows : (bytes : List ℕ) → NoneAt (ListAt RowAt 91 93) (behind_space bytes) → NoRows bytes

@@ -16,7 +16,7 @@ bracket-no-scalar Object inner = not-scalar 123 inner (λ k. omega arith) (λ k.
 pub InnerAt : Kind → List ℕ → List ℕ → Type 0
 InnerAt kind bytes after = (bytes ≡ closing kind ∷ after) ⊎ ((value : List ℕ) × ItemAt kind bytes value × ItemsAt kind value after)
 
-same-inner : (k m : Kind) (inner other : List ℕ) → opening k ∷ inner ≡ opening m ∷ other → (k ≡ m) × (inner ≡ other)
+pub same-inner : (k m : Kind) (inner other : List ℕ) → opening k ∷ inner ≡ opening m ∷ other → (k ≡ m) × (inner ≡ other)
 same-inner k m inner other e = (opening-same k m (heads (opening k) (opening m) inner other e), tails (opening k) (opening m) inner other e)
 
 pub open-back : (kind : Kind) (inner after : List ℕ) → ValueAt (opening kind ∷ inner) after → InnerAt kind (behind_space inner) after

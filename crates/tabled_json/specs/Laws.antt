@@ -1,12 +1,14 @@
 -- What the laws of JSON records say.
 use Rattle.std.specs.List.{AllByRecursion}
 use Rattle.std.specs.Prelude.{◌≡◌, ◌++◌, ℕ, List, [], ◌∷◌, length}
+use Rattle.tabled_json.specs.Faults.{IsFault, IsTableFault}
 use Rattle.tabled_json.specs.Grammar.{ValueAt}
-use Rattle.tabled_json.specs.Meanings.{MeansTable}
-use Rattle.tabled_json.specs.Records.{MeansRecords}
+use Rattle.tabled_json.specs.Meanings.{MeansNoTable, MeansTable}
+use Rattle.tabled_json.specs.Records.{MeansNoRecords, MeansRecords}
 use Rattle.tabled_json.specs.Strings.{StringAt}
 use Rattle.tabled_json.specs.Tables.{AreDistinct, table_of}
 use Rattle.tabled_json.specs.Writing.{json_of, records_of, records_text, string_of}
+use Rattle.tabled_json.specs.declared.fault.Fault.{Fault}
 use Rattle.tabled_json.specs.declared.form.Layout.{Layout}
 use Rattle.tabled_json.specs.declared.form.Values.{Values}
 
@@ -17,6 +19,17 @@ MeansOneList bytes = (objects others : List (List (List ℕ × List ℕ))) → M
 -- bytes mean one table at most
 abbrev pub MeansOneTable : List ℕ → Type 0
 MeansOneTable bytes = (rows others : List (List (List ℕ))) → MeansTable bytes rows → MeansTable bytes others → rows ≡ others
+
+-- one fault at most shows, in one place
+abbrev pub HasOneFault : (ℕ → ℕ → Fault → Type 0) → Type 0
+HasOneFault Shows =
+    (line other_line column other_column : ℕ) (fault other : Fault) → Shows line column fault → Shows other_line other_column other
+    → (line ≡ other_line) × (column ≡ other_column) × (fault ≡ other)
+
+-- bytes that have a fault mean no records, and those that have one as a table no table
+pub record FaultyMeansNone (bytes : List ℕ) : Type 0 where
+  pub records : (line column : ℕ) (fault : Fault) → IsFault bytes line column fault → MeansNoRecords bytes
+  pub table : (line column : ℕ) (fault : Fault) → IsTableFault bytes line column fault → MeansNoTable bytes
 
 -- one thing at most is behind a value
 abbrev pub EndsOnce : List ℕ → Type 0

@@ -9,7 +9,8 @@ pub mod Places
 pub mod Reading
 pub mod Writing
 pub mod Writes
-pub mod Laws
 pub mod Tables
 pub mod Texts
 pub mod Meanings
+pub mod Faults
+pub mod Laws

@@ -1,6 +1,6 @@
 -- What is behind an element of a list.
 use Rattle.std.specs.Prelude.{◌≡◌, ℕ, List, ◌∷◌, length}
-use Rattle.tabled_json.specs.Space.{NotBefore, behind_space}
+use Rattle.tabled_json.specs.Space.{behind_space}
 use Rattle.tabled_json.specs.declared.list.Behind.{Behind}
 use Rattle.tabled_json.specs.declared.list.Behind.TheVariants.{Closed, Next}
 
@@ -14,11 +14,6 @@ pub record IsFurther (behind bytes : List ℕ) : Type 0 where
 abbrev pub BehindIs : ℕ → List ℕ → Behind → Type 0
 BehindIs close behind (Closed after) = behind_space behind ≡ close ∷ after.now
 BehindIs close behind (Next bytes) = IsFurther behind bytes.now
-
--- neither the closing byte nor a comma is behind an element
-pub record NothingBehind (close : ℕ) (behind : List ℕ) : Type 0 where
-  pub no_close : NotBefore close (behind_space behind)
-  pub no_comma : NotBefore 44 (behind_space behind)
 
 -- how many bytes are left behind it
 abbrev pub behind_left : Behind → ℕ

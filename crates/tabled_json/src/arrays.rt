@@ -1,10 +1,11 @@
 //! Rows, read: an array of arrays.
 
 ghost use Rattle.std.specs.Prelude.{◌<◌, IfOk, MatchResult, length};
+ghost use Rattle.tabled_json.specs.Faults.{ArrayFault, CellFault, ElementsFault, ListFault, RowFault};
 ghost use Rattle.tabled_json.specs.Grammar.{AreRows, CellAt, ElementsAt, ListAt, RowAt};
-ghost use Rattle.tabled_json.specs.Meanings.{NoRows};
-ghost use Rattle.tabled_json.specs.Reading.{NoneAt, WasFaulty};
+ghost use Rattle.tabled_json.specs.Reading.{Shows};
 ghost use Rattle.tabled_json.specs.Texts.{rows_of, texts_of};
+ghost use Rattle.tabled_json.specs.declared.fault.Fault.TheVariants.{Unexpected};
 
 use crate::cell::cell;
 use crate::fault::{Fault, Unread, unexpected, wanted};
@@ -20,7 +21,7 @@ fn texts<'a>(
     scratch: &mut Vec<u8>,
     spare: &mut Spare<'a>,
 ) -> Result<(Vec<&'a str>, &'a [u8]), Unread>
-    ensures read { MatchResult result (λ r. ElementsAt CellAt 93 bytes.now (texts_of r.0) r.1.now) (WasFaulty (NoneAt (ElementsAt CellAt 93) bytes.now)) }
+    ensures read { MatchResult result (λ r. ElementsAt CellAt 93 bytes.now (texts_of r.0) r.1.now) (Shows (ElementsFault CellAt CellFault 93 bytes.now)) }
     ensures shorter { IfOk result (λ r. length r.1.now < length bytes.now) }
 {
     let mut texts = Vec::new(alloc);
@@ -47,7 +48,7 @@ fn row<'a>(
     scratch: &mut Vec<u8>,
     spare: &mut Spare<'a>,
 ) -> Result<(Vec<&'a str>, &'a [u8]), Unread>
-    ensures read { MatchResult result (λ r. RowAt bytes.now (texts_of r.0) r.1.now) (WasFaulty (NoneAt RowAt bytes.now)) }
+    ensures read { MatchResult result (λ r. RowAt bytes.now (texts_of r.0) r.1.now) (Shows (RowFault bytes.now)) }
     ensures shorter { IfOk result (λ r. length r.1.now < length bytes.now) }
 {
     let Some(inner) = behind_byte(91, bytes) else {
@@ -69,7 +70,7 @@ fn rows<'a>(
     scratch: &mut Vec<u8>,
     spare: &mut Spare<'a>,
 ) -> Result<(Vec<Vec<&'a str>>, &'a [u8]), Unread>
-    ensures read { MatchResult result (λ r. ElementsAt RowAt 93 bytes.now (rows_of r.0.items) r.1.now) (WasFaulty (NoneAt (ElementsAt RowAt 93) bytes.now)) }
+    ensures read { MatchResult result (λ r. ElementsAt RowAt 93 bytes.now (rows_of r.0.items) r.1.now) (Shows (ElementsFault RowAt RowFault 93 bytes.now)) }
     ensures shorter { IfOk result (λ r. length r.1.now < length bytes.now) }
 {
     let mut rows = Vec::new(alloc);
@@ -92,7 +93,7 @@ fn array<'a>(
     scratch: &mut Vec<u8>,
     spare: &mut Spare<'a>,
 ) -> Result<(Vec<Vec<&'a str>>, &'a [u8]), Unread>
-    ensures read { MatchResult result (λ r. ListAt RowAt 91 93 bytes.now (rows_of r.0.items) r.1.now) (WasFaulty (NoneAt (ListAt RowAt 91 93) bytes.now)) }
+    ensures read { MatchResult result (λ r. ListAt RowAt 91 93 bytes.now (rows_of r.0.items) r.1.now) (Shows (ListFault RowAt RowFault Unexpected 91 93 bytes.now)) }
     ensures shorter { IfOk result (λ r. length r.1.now < length bytes.now) }
 {
     let Some(inner) = behind_byte(91, bytes) else {
@@ -114,7 +115,7 @@ pub(crate) fn array_rows<'a>(
     scratch: &mut Vec<u8>,
     spare: &mut Spare<'a>,
 ) -> Result<Vec<Vec<&'a str>>, Unread>
-    ensures { MatchResult result (λ rows. AreRows bytes.now (rows_of rows.items)) (WasFaulty (NoRows bytes.now)) }
+    ensures { MatchResult result (λ rows. AreRows bytes.now (rows_of rows.items)) (Shows (ArrayFault RowAt RowFault bytes.now)) }
 {
     let first = behind_space(bytes);
     let (rows, after) = array(alloc, first, scratch, spare)?;

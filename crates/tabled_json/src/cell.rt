@@ -1,8 +1,9 @@
 //! Values as the texts of cells, read.
 
-ghost use Rattle.std.specs.Prelude.{◌≡◌, ◌≤◌, IfOk, IsUtf8, MatchResult, length};
+ghost use Rattle.std.specs.Prelude.{◌≡◌, ◌≤◌, IfOk, MatchResult, length};
+ghost use Rattle.tabled_json.specs.Faults.{CellFault, IsNoText};
 ghost use Rattle.tabled_json.specs.Grammar.{CellAt};
-ghost use Rattle.tabled_json.specs.Reading.{NoneAt, WasFaulty};
+ghost use Rattle.tabled_json.specs.Reading.{Shows};
 ghost use Rattle.tabled_json.specs.Records.{HoldsText};
 
 use crate::fault::{Fault, Unread};
@@ -20,7 +21,7 @@ pub(crate) fn text_of<'a>(
     spare: &mut Spare<'a>,
     left: usize,
 ) -> Result<&'a str, Unread>
-    ensures { MatchResult result (HoldsText bytes.now) (WasFaulty (IsUtf8 bytes.now → ⊥)) }
+    ensures { MatchResult result (HoldsText bytes.now) (Shows (IsNoText left bytes.now)) }
 {
     let lent = spare.lend(source, bytes)?;
     match str::from_utf8(lent) {
@@ -41,7 +42,7 @@ pub(crate) fn cell<'a>(
     scratch: &mut Vec<u8>,
     spare: &mut Spare<'a>,
 ) -> Result<(&'a str, &'a [u8]), Unread>
-    ensures read { MatchResult result (λ r. CellAt bytes.now r.0.now r.1.now) (WasFaulty (NoneAt CellAt bytes.now)) }
+    ensures read { MatchResult result (λ r. CellAt bytes.now r.0.now r.1.now) (Shows (CellFault bytes.now)) }
     ensures shorter { IfOk result (λ r. length r.1.now ≤ length bytes.now) }
 {
     if let Some((_kind, _inner)) = opened(bytes) {

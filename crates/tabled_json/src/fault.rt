@@ -1,5 +1,11 @@
 //! What is wrong with bytes that are no records, and why reading ends early.
 
+ghost use Rattle.std.specs.Prelude.{◌≡◌};
+ghost use Rattle.tabled_json.specs.Faults.{IsWanted, begins_word, is_letter, told_by};
+ghost use Rattle.tabled_json.specs.Reading.{Shows};
+ghost use Rattle.tabled_json.specs.declared.fault.Fault.TheVariants.{Unexpected};
+
+use crate::scalar::behind_word;
 use std::alloc::{AllocError, AllocFailed};
 use std::error::Error;
 use std::{fmt, io};
@@ -184,29 +190,54 @@ impl<T: Drop> From<AllocFailed<T>> for Unread {
     }
 }
 
+/// Whether a byte is a letter.
+fn is_letter(byte: u8) -> bool
+    ensures { result ≡ is_letter byte }
+{
+    (65 <= byte && byte <= 90) || (97 <= byte && byte <= 122)
+}
+
 /// Whether bytes begin with a word of JSON.
-fn begins_with_word(bytes: &[u8]) -> bool {
-    bytes.starts_with(b"true") || bytes.starts_with(b"false") || bytes.starts_with(b"null")
+fn begins_word(bytes: &[u8]) -> bool
+    ensures { result ≡ begins_word bytes.now }
+{
+    behind_word(b"true", bytes).is_some()
+        || behind_word(b"false", bytes).is_some()
+        || behind_word(b"null", bytes).is_some()
+}
+
+/// What is told of bytes that begin with nothing that is wanted: by what they begin with, where that is often written,
+/// or else so.
+fn told_by(wanted: Fault, bytes: &[u8]) -> Fault
+    ensures { result ≡ told_by wanted bytes.now }
+{
+    let Some((first, _behind)) = bytes.split_first() else {
+        return Fault::Ended;
+    };
+    match *first {
+        44 => Fault::Comma,
+        93 | 125 => Fault::Closing,
+        39 => Fault::SingleQuote,
+        47 | 35 => Fault::Comment,
+        _ => {
+            if is_letter(*first) && !begins_word(bytes) {
+                return Fault::NoWord;
+            }
+            wanted
+        }
+    }
 }
 
 /// What is told where something else is wanted.
-pub(crate) fn unexpected(bytes: &[u8]) -> Unread {
+pub(crate) fn unexpected(bytes: &[u8]) -> Unread
+    ensures { Shows (IsWanted Unexpected bytes.now) result }
+{
     wanted(Fault::Unexpected, bytes)
 }
 
-/// What is told where something is wanted that bytes don't begin with: by what they begin with, where that is often
-/// written, or else so.
-pub(crate) fn wanted(fault: Fault, bytes: &[u8]) -> Unread {
-    let Some(first) = bytes.first() else {
-        return Unread::Faulty(Fault::Ended, 0);
-    };
-    let told = match *first {
-        b',' => Fault::Comma,
-        b']' | b'}' => Fault::Closing,
-        b'\'' => Fault::SingleQuote,
-        b'/' | b'#' => Fault::Comment,
-        b'A'..=b'Z' | b'a'..=b'z' if !begins_with_word(bytes) => Fault::NoWord,
-        _ => fault,
-    };
-    Unread::Faulty(told, bytes.len())
+/// What is told where something is wanted that bytes don't begin with.
+pub(crate) fn wanted(fault: Fault, bytes: &[u8]) -> Unread
+    ensures { Shows (IsWanted fault bytes.now) result }
+{
+    Unread::Faulty(told_by(fault, bytes), bytes.len())
 }

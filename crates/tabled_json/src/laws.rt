@@ -2,7 +2,8 @@
 
 ghost use Rattle.std.specs.List.{AllByRecursion};
 ghost use Rattle.std.specs.Prelude.{ℕ, List, IsUtf8};
-ghost use Rattle.tabled_json.specs.Laws.{AreReadBack, EndsOnce, IsReadBack, IsTable, MeansOneList, MeansOneTable, RowsAreReadBack};
+ghost use Rattle.tabled_json.specs.Faults.{IsFault, IsTableFault};
+ghost use Rattle.tabled_json.specs.Laws.{AreReadBack, EndsOnce, FaultyMeansNone, HasOneFault, IsReadBack, IsTable, MeansOneList, MeansOneTable, RowsAreReadBack};
 ghost use Rattle.tabled_json.specs.Writing.{AreRecords};
 
 /// Bytes mean one list of records at most.
@@ -13,6 +14,17 @@ pub fn bytes_mean_one_list_of_records()
 /// Bytes mean one table at most, whether they are records or rows.
 pub fn bytes_mean_one_table()
     ensures { (bytes : List ℕ) → MeansOneTable bytes }
+{}
+
+/// Bytes have one fault at most, as records and as a table, in one place.
+pub fn bytes_have_one_fault()
+    ensures records { (bytes : List ℕ) → HasOneFault (IsFault bytes) }
+    ensures table { (bytes : List ℕ) → HasOneFault (IsTableFault bytes) }
+{}
+
+/// Bytes that have a fault mean no records, and those that have one as a table no table.
+pub fn faulty_bytes_mean_nothing()
+    ensures { (bytes : List ℕ) → FaultyMeansNone bytes }
 {}
 
 /// One thing at most is behind a value.

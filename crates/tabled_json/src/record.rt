@@ -1,10 +1,12 @@
 //! Records, read.
 
 ghost use Rattle.std.specs.Prelude.{◌<◌, IfErr, IfOk, MatchResult, length};
+ghost use Rattle.tabled_json.specs.Faults.{ElementsFault, IsFault, LinesFault, ListFault, MemberFault, ObjectFault, RecordsFault};
 ghost use Rattle.tabled_json.specs.Grammar.{AreLines, ElementsAt, IsRecords, ListAt, MemberAt, ObjectAt};
-ghost use Rattle.tabled_json.specs.Reading.{NoneAt, WasFaulty};
+ghost use Rattle.tabled_json.specs.Reading.{Shows};
 ghost use Rattle.tabled_json.specs.Places.{AtFault, IsPlace};
-ghost use Rattle.tabled_json.specs.Records.{MeansNoRecords, MeansRecords, NoLines, NoRecords, behind_mark, member_of, members_of, objects_of};
+ghost use Rattle.tabled_json.specs.Records.{MeansNoRecords, MeansRecords, behind_mark, member_of, members_of, objects_of};
+ghost use Rattle.tabled_json.specs.declared.fault.Fault.TheVariants.{Unexpected};
 
 use crate::cell::{behind_quote, cell, text_of};
 use crate::fault::{Fault, ReadError, Unread, unexpected, wanted};
@@ -23,7 +25,7 @@ fn read_member<'a>(
     scratch: &mut Vec<u8>,
     spare: &mut Spare<'a>,
 ) -> Result<(Member<'a>, &'a [u8]), Unread>
-    ensures read { MatchResult result (λ r. MemberAt bytes.now (member_of r.0) r.1.now) (WasFaulty (NoneAt MemberAt bytes.now)) }
+    ensures read { MatchResult result (λ r. MemberAt bytes.now (member_of r.0) r.1.now) (Shows (MemberFault bytes.now)) }
     ensures shorter { IfOk result (λ r. length r.1.now < length bytes.now) }
 {
     let value = key(bytes, scratch)?;
@@ -39,7 +41,7 @@ fn members<'a>(
     scratch: &mut Vec<u8>,
     spare: &mut Spare<'a>,
 ) -> Result<(Vec<Member<'a>>, &'a [u8]), Unread>
-    ensures read { MatchResult result (λ r. ElementsAt MemberAt 125 bytes.now (members_of r.0) r.1.now) (WasFaulty (NoneAt (ElementsAt MemberAt 125) bytes.now)) }
+    ensures read { MatchResult result (λ r. ElementsAt MemberAt 125 bytes.now (members_of r.0) r.1.now) (Shows (ElementsFault MemberAt MemberFault 125 bytes.now)) }
     ensures shorter { IfOk result (λ r. length r.1.now < length bytes.now) }
 {
     let mut members = Vec::new(alloc);
@@ -66,7 +68,7 @@ fn object<'a>(
     scratch: &mut Vec<u8>,
     spare: &mut Spare<'a>,
 ) -> Result<(Vec<Member<'a>>, &'a [u8]), Unread>
-    ensures read { MatchResult result (λ r. ObjectAt bytes.now (members_of r.0) r.1.now) (WasFaulty (NoneAt ObjectAt bytes.now)) }
+    ensures read { MatchResult result (λ r. ObjectAt bytes.now (members_of r.0) r.1.now) (Shows (ObjectFault bytes.now)) }
     ensures shorter { IfOk result (λ r. length r.1.now < length bytes.now) }
 {
     let Some(inner) = behind_byte(123, bytes) else {
@@ -88,7 +90,7 @@ fn objects<'a>(
     scratch: &mut Vec<u8>,
     spare: &mut Spare<'a>,
 ) -> Result<(Vec<Vec<Member<'a>>>, &'a [u8]), Unread>
-    ensures read { MatchResult result (λ r. ElementsAt ObjectAt 93 bytes.now (objects_of r.0) r.1.now) (WasFaulty (NoneAt (ElementsAt ObjectAt 93) bytes.now)) }
+    ensures read { MatchResult result (λ r. ElementsAt ObjectAt 93 bytes.now (objects_of r.0) r.1.now) (Shows (ElementsFault ObjectAt ObjectFault 93 bytes.now)) }
     ensures shorter { IfOk result (λ r. length r.1.now < length bytes.now) }
 {
     let mut objects = Vec::new(alloc);
@@ -111,7 +113,7 @@ fn array<'a>(
     scratch: &mut Vec<u8>,
     spare: &mut Spare<'a>,
 ) -> Result<(Vec<Vec<Member<'a>>>, &'a [u8]), Unread>
-    ensures read { MatchResult result (λ r. ListAt ObjectAt 91 93 bytes.now (objects_of r.0) r.1.now) (WasFaulty (NoneAt (ListAt ObjectAt 91 93) bytes.now)) }
+    ensures read { MatchResult result (λ r. ListAt ObjectAt 91 93 bytes.now (objects_of r.0) r.1.now) (Shows (ListFault ObjectAt ObjectFault Unexpected 91 93 bytes.now)) }
     ensures shorter { IfOk result (λ r. length r.1.now < length bytes.now) }
 {
     let Some(inner) = behind_byte(91, bytes) else {
@@ -133,7 +135,7 @@ fn lines<'a>(
     scratch: &mut Vec<u8>,
     spare: &mut Spare<'a>,
 ) -> Result<Vec<Vec<Member<'a>>>, Unread>
-    ensures { MatchResult result (λ all. AreLines bytes.now (objects_of all)) (WasFaulty (NoLines bytes.now)) }
+    ensures { MatchResult result (λ all. AreLines bytes.now (objects_of all)) (Shows (LinesFault bytes.now)) }
 {
     let mut objects = Vec::new(alloc);
     let mut rest = bytes;
@@ -155,7 +157,7 @@ pub(crate) fn records<'a>(
     scratch: &mut Vec<u8>,
     spare: &mut Spare<'a>,
 ) -> Result<Vec<Vec<Member<'a>>>, Unread>
-    ensures { MatchResult result (λ all. IsRecords bytes.now (objects_of all)) (WasFaulty (NoRecords bytes.now)) }
+    ensures { MatchResult result (λ all. IsRecords bytes.now (objects_of all)) (Shows (RecordsFault bytes.now)) }
 {
     let first = behind_space(bytes);
     let Some(_inner) = behind_byte(91, first) else {
@@ -185,9 +187,10 @@ pub fn read<'a>(
 ) -> Result<Vec<Vec<Member<'a>>>, ReadError>
     ensures records { IfOk result (λ all. MeansRecords bytes.now (objects_of all)) }
 
-    // Where there is a fault, no objects are the meaning of these bytes.
-    ensures none { IfErr result (AtFault (λ line column fault. MeansNoRecords bytes.now)) }
+    // A fault is told where it shows first, and no objects are the meaning of these bytes.
+    ensures fault { IfErr result (AtFault (IsFault bytes.now)) }
     ensures place { IfErr result (AtFault (λ line column fault. IsPlace (behind_mark bytes.now) line column)) }
+    ensures none { IfErr result (AtFault (λ line column fault. MeansNoRecords bytes.now)) }
 {
     let text = behind_mark(bytes);
     let mut scratch = Vec::new(alloc);

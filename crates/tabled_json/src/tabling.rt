@@ -1,9 +1,10 @@
 //! The table of records, and the tables that bytes mean.
 
 ghost use Rattle.std.specs.Prelude.{◌≡◌, [], IfErr, IfOk, MatchResult, OnOk, map};
-ghost use Rattle.tabled_json.specs.Meanings.{HoldsTable, MeansNoTable, MeansTable, HoldsNoTable, begins_rows};
+ghost use Rattle.tabled_json.specs.Faults.{IsTableFault, TableFault};
+ghost use Rattle.tabled_json.specs.Meanings.{HoldsTable, MeansNoTable, MeansTable, begins_rows};
 ghost use Rattle.tabled_json.specs.Places.{AtFault, IsPlace};
-ghost use Rattle.tabled_json.specs.Reading.{WasFaulty};
+ghost use Rattle.tabled_json.specs.Reading.{Shows};
 ghost use Rattle.tabled_json.specs.Records.{all_of, behind_mark, list_of};
 ghost use Rattle.tabled_json.specs.Space.{behind_space};
 ghost use Rattle.tabled_json.specs.Tables.{AreListed, keys_of, row_of, table_of, with_members};
@@ -124,7 +125,7 @@ fn whole_table<'a>(
     bytes: &'a [u8],
     spare: &mut Spare<'a>,
 ) -> Result<Vec<Vec<&'a str>>, Unread>
-    ensures { MatchResult result (λ rows. HoldsTable bytes.now (rows_of rows.items)) (WasFaulty (HoldsNoTable bytes.now)) }
+    ensures { MatchResult result (λ rows. HoldsTable bytes.now (rows_of rows.items)) (Shows (TableFault bytes.now)) }
 {
     let mut scratch = Vec::new(alloc);
     if begins_rows(bytes) {
@@ -148,9 +149,10 @@ pub fn read_table<'a>(
 ) -> Result<Vec<Vec<&'a str>>, ReadError>
     ensures table { IfOk result (λ rows. MeansTable bytes.now (rows_of rows.items)) }
 
-    // Where there is a fault, no table is the meaning of these bytes.
-    ensures none { IfErr result (AtFault (λ line column fault. MeansNoTable bytes.now)) }
+    // A fault is told where it shows first, and no table is the meaning of these bytes.
+    ensures fault { IfErr result (AtFault (IsTableFault bytes.now)) }
     ensures place { IfErr result (AtFault (λ line column fault. IsPlace (behind_mark bytes.now) line column)) }
+    ensures none { IfErr result (AtFault (λ line column fault. MeansNoTable bytes.now)) }
 {
     read_table_with(alloc, bytes, &mut Spare::new(room))
 }
@@ -165,9 +167,10 @@ pub fn read_table_with<'a>(
 ) -> Result<Vec<Vec<&'a str>>, ReadError>
     ensures table { IfOk result (λ rows. MeansTable bytes.now (rows_of rows.items)) }
 
-    // Where there is a fault, no table is the meaning of these bytes.
-    ensures none { IfErr result (AtFault (λ line column fault. MeansNoTable bytes.now)) }
+    // A fault is told where it shows first, and no table is the meaning of these bytes.
+    ensures fault { IfErr result (AtFault (IsTableFault bytes.now)) }
     ensures place { IfErr result (AtFault (λ line column fault. IsPlace (behind_mark bytes.now) line column)) }
+    ensures none { IfErr result (AtFault (λ line column fault. MeansNoTable bytes.now)) }
 {
     let text = behind_mark(bytes);
     match whole_table(alloc, text, spare) {

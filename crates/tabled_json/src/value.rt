@@ -1,9 +1,10 @@
 //! Values of any depth, passed over.
 
 ghost use Rattle.std.specs.Prelude.{◌≡◌, ◌∷◌, ◌<◌, ◌≤◌, IfOk, IfSome, MatchOption, MatchResult, length};
+ghost use Rattle.tabled_json.specs.Faults.{EndFault, ItemFault, KeyFault, ValueFault};
 ghost use Rattle.tabled_json.specs.Grammar.{ItemAt, KeyAt, ValueAt, closing, opening};
-ghost use Rattle.tabled_json.specs.Reading.{NoneAt, WasFaulty};
-ghost use Rattle.tabled_json.specs.WholeValues.{BegunAt, EndedAt, NoEndAt, NoItemAt, NoValueAt, OpensNothing, begun_left, ended_left};
+ghost use Rattle.tabled_json.specs.Reading.{Shows};
+ghost use Rattle.tabled_json.specs.WholeValues.{BegunAt, EndedAt, OpensNothing, begun_left, ended_left};
 
 use crate::fault::{Unread, unexpected};
 use crate::scalar::scalar;
@@ -44,7 +45,7 @@ pub(crate) fn opened(bytes: &[u8]) -> Option<(Kind, &[u8])>
 
 /// Puts the key at the front into `text`. The bytes at its value.
 pub(crate) fn key<'a>(bytes: &'a [u8], text: &mut Vec<u8>) -> Result<&'a [u8], Unread>
-    ensures read { MatchResult result (λ value. KeyAt bytes.now text.new.items value.now) (WasFaulty (NoneAt KeyAt bytes.now)) }
+    ensures read { MatchResult result (λ value. KeyAt bytes.now text.new.items value.now) (Shows (KeyFault bytes.now)) }
     ensures shorter { IfOk result (λ value. length value.now < length bytes.now) }
 {
     let Some(behind) = behind_byte(34, bytes) else {
@@ -60,7 +61,7 @@ pub(crate) fn key<'a>(bytes: &'a [u8], text: &mut Vec<u8>) -> Result<&'a [u8], U
 
 /// The bytes at the value of an item.
 fn item<'a>(kind: Kind, bytes: &'a [u8], scratch: &mut Vec<u8>) -> Result<&'a [u8], Unread>
-    ensures read { MatchResult result (λ value. ItemAt kind bytes.now value.now) (WasFaulty (NoItemAt kind bytes.now)) }
+    ensures read { MatchResult result (λ value. ItemAt kind bytes.now value.now) (Shows (ItemFault kind bytes.now)) }
     ensures shorter { IfOk result (λ value. length value.now ≤ length bytes.now) }
 {
     match kind {
@@ -77,7 +78,7 @@ enum Begun<'a> {
 
 /// What is behind the front of a value.
 fn begin<'a>(bytes: &'a [u8], scratch: &mut Vec<u8>) -> Result<Begun<'a>, Unread>
-    ensures read { MatchResult result (BegunAt bytes.now) (WasFaulty (NoValueAt bytes.now)) }
+    ensures read { MatchResult result (BegunAt bytes.now) (Shows (ValueFault bytes.now)) }
     ensures shorter { IfOk result (λ begun. begun_left begun < length bytes.now) }
 {
     let Some((kind, inner)) = opened(bytes) else {
@@ -100,7 +101,7 @@ enum Ended<'a> {
 
 /// What is behind an item.
 fn end<'a>(kind: Kind, behind: &'a [u8], scratch: &mut Vec<u8>) -> Result<Ended<'a>, Unread>
-    ensures read { MatchResult result (EndedAt kind behind.now) (WasFaulty (NoEndAt kind behind.now)) }
+    ensures read { MatchResult result (EndedAt kind behind.now) (Shows (EndFault kind behind.now)) }
     ensures shorter { IfOk result (λ ended. ended_left ended < length behind.now) }
 {
     let bytes = behind_space(behind);
@@ -121,7 +122,7 @@ pub(crate) fn behind_value<'a>(
     bytes: &'a [u8],
     scratch: &mut Vec<u8>,
 ) -> Result<&'a [u8], Unread>
-    ensures read { MatchResult result (λ after. ValueAt bytes.now after.now) (WasFaulty (NoValueAt bytes.now)) }
+    ensures read { MatchResult result (λ after. ValueAt bytes.now after.now) (Shows (ValueFault bytes.now)) }
     ensures shorter { IfOk result (λ after. length after.now ≤ length bytes.now) }
 {
     let mut within: Vec<Kind> = Vec::new(alloc);

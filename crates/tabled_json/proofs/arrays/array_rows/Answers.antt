@@ -1,9 +1,9 @@
-use Rattle.tabled_json.proofs.Common.{◌∙◌, ℕ, List, NoneAt, err_from_is_err_and, faulty-any, faulty-from, map, subst, sym}
+use Rattle.tabled_json.proofs.Common.{◌∙◌, ℕ, List, err_from_is_err_and, shows-from, map, subst, sym}
 use Rattle.tabled_json.proofs.Lines.{empty-is, some-is}
-use Rattle.tabled_json.proofs.Meaning.{no-rows, rows-not-ended}
+use Rattle.tabled_json.specs.Faults.{ArrayFault, IsWanted, ListFault, RowFault}
 use Rattle.tabled_json.specs.Grammar.{ListAt, RowAt}
-use Rattle.tabled_json.specs.Meanings.{NoRows}
 use Rattle.tabled_json.specs.Texts.{texts_of}
+use Rattle.tabled_json.specs.declared.fault.Fault.TheVariants.{Unexpected}
 use Rattle.tabled_json.proofs.arrays.array_rows.Goals as goal
 
 pub returns-in_err-rows : goal.returns-in_err-rows
@@ -11,8 +11,8 @@ returns-in_err-rows c =
     let p = err_from_is_err_and c.from_residual.result c.from_residual.ensures.1 in
     let b = c.args.bytes.now in
     rw (p.1, p.2)
-    (faulty-from (NoneAt (ListAt RowAt 91 93) c.behind_space-first.result.now) (NoRows b) c.in_err-rows.field-0.0
-    (λ none. no-rows b (subst (NoneAt (ListAt RowAt 91 93)) c.behind_space-first.ensures.value none)) c.in_err-rows.ensures.read)
+    (shows-from (ListFault RowAt RowFault Unexpected 91 93 c.behind_space-first.result.now) (ArrayFault RowAt RowFault b) c.in_err-rows.field-0.0
+    (λ fault left f. ArrayFault.array (subst (λ (l : List ℕ). ListFault RowAt RowFault Unexpected 91 93 l fault left) c.behind_space-first.ensures.value f)) c.in_err-rows.ensures.read)
 
 pub returns-then-is_empty : goal.returns-then-is_empty
 returns-then-is_empty c =
@@ -28,6 +28,9 @@ returns c =
     let b = c.args.bytes.now in
     let after = c.in_ok-rows.after.now in
     let rows = map texts_of c.in_ok-rows.rows.items in
-    faulty-any (NoRows b) c.unexpected.result
-    (rows-not-ended b after rows (subst (λ (l : List ℕ). ListAt RowAt 91 93 l rows after) c.behind_space-first.ensures.value c.in_ok-rows.ensures.read)
-    (λ e. some-is c.behind_space-rest.result.now (sym c.if-is_empty.false ∙ c.is_empty.ensures) (c.behind_space-rest.ensures.value ∙ e)))
+    let rest = c.behind_space-rest.result.now in
+    let behind = c.behind_space-rest.ensures.value in
+    shows-from (IsWanted Unexpected rest) (ArrayFault RowAt RowFault b) c.unexpected.result
+    (λ fault left f. ArrayFault.behind rows after (subst (λ (l : List ℕ). ListAt RowAt 91 93 l rows after) c.behind_space-first.ensures.value c.in_ok-rows.ensures.read)
+    (λ e. some-is rest (sym c.if-is_empty.false ∙ c.is_empty.ensures) (behind ∙ e)) (subst (λ (l : List ℕ). IsWanted Unexpected l fault left) behind f))
+    c.unexpected.ensures

@@ -1,10 +1,10 @@
-use Rattle.tabled_json.proofs.Common.{◌≡◌, ◌∷◌, ◌++◌, ◌∙◌, ◌<◌, [], NoneAt, arith, length, map, map-append, ap, err_from_is_err_and, faulty-from}
+use Rattle.tabled_json.proofs.Common.{◌≡◌, ◌∷◌, ◌++◌, ◌∙◌, ◌<◌, [], arith, length, map, map-append, ap, err_from_is_err_and, shows-from}
 use Rattle.tabled_json.specs.Space.{behind_space}
-use Rattle.tabled_json.specs.Grammar.{ElementsAt, RowAt}
-use Rattle.tabled_json.specs.Lists.{IsFurther, NothingBehind}
+use Rattle.tabled_json.specs.Faults.{ElementsFault, RowFault, TailFault}
+use Rattle.tabled_json.specs.Grammar.{RowAt}
+use Rattle.tabled_json.specs.Lists.{IsFurther}
 use Rattle.tabled_json.specs.Texts.{texts_of}
-use Rattle.tabled_json.proofs.Meaning.{one-row}
-use Rattle.tabled_json.proofs.Lists.{no-element, no-tail, elements-done, element-read}
+use Rattle.tabled_json.proofs.Lists.{element-fault, element-read, elements-done, tail-fault}
 use Rattle.tabled_json.proofs.arrays.rows.Goals as goal
 
 pub returns-in_err-found-clause-read : goal.returns-in_err-found-clause-read
@@ -13,8 +13,8 @@ returns-in_err-found-clause-read c =
     let b = c.args.bytes.now in
     let rest = c.rows.rest.now in
     rw (p.1, p.2)
-    (faulty-from (NoneAt RowAt rest) (NoneAt (ElementsAt RowAt 93) b) c.in_err-found.field-0.0
-    (no-element RowAt 93 one-row (λ e. omega arith) b rest (map texts_of c.rows.rows.items) c.rows.invariant.read) c.in_err-found.ensures.read)
+    (shows-from (RowFault rest) (ElementsFault RowAt RowFault 93 b) c.in_err-found.field-0.0
+    (element-fault RowAt RowFault 93 b rest (map texts_of c.rows.rows.items) c.rows.invariant.read) c.in_err-found.ensures.read)
 
 pub returns-in_err-tail-clause-read : goal.returns-in_err-tail-clause-read
 returns-in_err-tail-clause-read c =
@@ -23,8 +23,8 @@ returns-in_err-tail-clause-read c =
     let rest = c.rows.rest.now in
     let behind = c.in_ok-found.behind.now in
     rw (p.1, p.2)
-    (faulty-from (NothingBehind 93 behind) (NoneAt (ElementsAt RowAt 93) b) c.in_err-tail.field-0.0
-    (λ n. no-tail RowAt 93 one-row (λ e. omega arith) b rest (map texts_of c.rows.rows.items) c.rows.invariant.read (texts_of c.in_ok-found.found) behind c.in_ok-found.ensures.read n.no_close n.no_comma)
+    (shows-from (TailFault 93 behind) (ElementsFault RowAt RowFault 93 b) c.in_err-tail.field-0.0
+    (tail-fault RowAt RowFault 93 b rest (map texts_of c.rows.rows.items) c.rows.invariant.read (texts_of c.in_ok-found.found) behind c.in_ok-found.ensures.read)
     c.in_err-tail.ensures.read)
 
 pub returns-in-Closed-clause-read : goal.returns-in-Closed-clause-read
@@ -36,7 +36,7 @@ returns-in-Closed-clause-read c =
     let after = c.in-Closed.after.now in
     let all : map texts_of c.push.new.self.items ≡ xs ++ (x ∷ []) = ap (map texts_of) c.in_ok-push.ensures.items ∙ map-append texts_of c.rows.rows.items (c.in_ok-found.found ∷ []) in
     let e : behind_space behind ≡ 93 ∷ after = rw c.in-Closed.is at c.in_ok-tail.ensures.read in
-    rw all (elements-done RowAt 93 one-row (λ e. omega arith) b c.rows.rest.now xs c.rows.invariant.read x behind after c.in_ok-found.ensures.read e)
+    rw all (elements-done RowAt RowFault 93 b c.rows.rest.now xs c.rows.invariant.read x behind after c.in_ok-found.ensures.read e)
 
 pub rows-preserved : goal.rows-preserved
 rows-preserved c =
@@ -51,6 +51,6 @@ rows-preserved c =
     let less : length next < length behind = rw c.in-Next.is at c.in_ok-tail.ensures.shorter in
     let less_found : length behind < length rest = c.in_ok-found.ensures.shorter in
     record {
-      read = rw (all, n.is) (element-read RowAt 93 one-row (λ e. omega arith) b rest xs c.rows.invariant.read x behind n.next c.in_ok-found.ensures.read n.comma);
+      read = rw (all, n.is) (element-read RowAt RowFault 93 b rest xs c.rows.invariant.read x behind n.next c.in_ok-found.ensures.read n.comma);
       shorter = omega arith;
     }

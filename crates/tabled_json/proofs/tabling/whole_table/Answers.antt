@@ -1,10 +1,10 @@
 use Rattle.std.specs.Global.{Vec}
-use Rattle.tabled_json.proofs.Common.{◌≡◌, ◌∙◌, Bor, List, ℕ, ap, err_from_is_err_and, false, faulty-from, map, match-from, sym, true}
-use Rattle.tabled_json.proofs.Meaning.{records-alone, rows-alone}
-use Rattle.tabled_json.specs.Grammar.{AreRows}
-use Rattle.tabled_json.specs.Meanings.{HoldsNoTable, HoldsTable, NoRows, begins_rows}
-use Rattle.tabled_json.specs.Reading.{WasFaulty}
-use Rattle.tabled_json.specs.Records.{NoRecords, members_of}
+use Rattle.tabled_json.proofs.Common.{◌≡◌, ◌∙◌, Bor, List, ℕ, ap, err_from_is_err_and, false, map, match-from, shows-from, sym, true}
+use Rattle.tabled_json.specs.Faults.{ArrayFault, RecordsFault, RowFault, TableFault}
+use Rattle.tabled_json.specs.Grammar.{AreRows, RowAt}
+use Rattle.tabled_json.specs.Meanings.{HoldsTable, begins_rows}
+use Rattle.tabled_json.specs.Reading.{Shows}
+use Rattle.tabled_json.specs.Records.{members_of}
 use Rattle.tabled_json.specs.Space.{behind_space}
 use Rattle.tabled_json.specs.Tables.{table_of}
 use Rattle.tabled_json.specs.Texts.{rows_of}
@@ -15,16 +15,16 @@ pub returns-then-begins_rows : goal.returns-then-begins_rows
 returns-then-begins_rows c =
     let b = c.args.bytes.now in
     let e : begins_rows (behind_space b) ≡ true = sym c.begins_rows.ensures ∙ c.if-begins_rows.true in
-    match-from c.array_rows.result (λ (rows : Vec (Vec (Bor (List ℕ)))). AreRows b (rows_of rows.items)) (λ (rows : Vec (Vec (Bor (List ℕ)))). HoldsTable b (rows_of rows.items)) (WasFaulty (NoRows b)) (WasFaulty (HoldsNoTable b))
+    match-from c.array_rows.result (λ (rows : Vec (Vec (Bor (List ℕ)))). AreRows b (rows_of rows.items)) (λ (rows : Vec (Vec (Bor (List ℕ)))). HoldsTable b (rows_of rows.items)) (Shows (ArrayFault RowAt RowFault b)) (Shows (TableFault b))
     (λ rows are. HoldsTable.of_rows are)
-    (λ unread none. faulty-from (NoRows b) (HoldsNoTable b) unread (rows-alone b e) none) c.array_rows.ensures
+    (λ unread f. shows-from (ArrayFault RowAt RowFault b) (TableFault b) unread (λ fault left g. TableFault.rows e g) f) c.array_rows.ensures
 
 pub returns-in_err-objects : goal.returns-in_err-objects
 returns-in_err-objects c =
     let p = err_from_is_err_and c.from_residual.result c.from_residual.ensures.1 in
     let b = c.args.bytes.now in
     let e : begins_rows (behind_space b) ≡ false = sym c.begins_rows.ensures ∙ c.if-begins_rows.false in
-    rw (p.1, p.2) (faulty-from (NoRecords b) (HoldsNoTable b) c.in_err-objects.field-0.0 (records-alone b e) c.in_err-objects.ensures)
+    rw (p.1, p.2) (shows-from (RecordsFault b) (TableFault b) c.in_err-objects.field-0.0 (λ fault left f. TableFault.records e f) c.in_err-objects.ensures)
 
 pub returns : goal.returns
 returns c =

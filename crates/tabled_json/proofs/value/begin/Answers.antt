@@ -1,9 +1,14 @@
-use Rattle.tabled_json.proofs.Common.{◌≡◌, ◌∷◌, ◌∙◌, ℕ, sym, ap, subst, err_from_is_err_and, faulty-from}
+use Rattle.tabled_json.proofs.Common.{◌≡◌, ◌∷◌, ◌∙◌, ℕ, sym, ap, subst, err_from_is_err_and, shows-from, List}
 use Rattle.tabled_json.specs.Space.{NotBefore, behind_space}
 use Rattle.tabled_json.specs.Grammar.{ValueAt, closing}
-use Rattle.tabled_json.specs.WholeValues.{NoItemAt, NoValueAt}
-use Rattle.tabled_json.proofs.WholeValues.{no-inside}
+use Rattle.tabled_json.specs.Faults.{ItemFault, ScalarFault, ValueFault}
 use Rattle.tabled_json.proofs.value.begin.Goals as goal
+
+pub returns-in_err-after-clause-read : goal.returns-in_err-after-clause-read
+returns-in_err-after-clause-read c =
+    let p = err_from_is_err_and c.from_residual.result c.from_residual.ensures.1 in
+    let b = c.args.bytes.now in
+    rw (p.1, p.2) (shows-from (ScalarFault b) (ValueFault b) c.in_err-after.field-0.0 (λ fault left f. ValueFault.scalar c.in_default.ensures.is f) c.in_err-after.ensures.read)
 
 pub returns-in_default-clause-read : goal.returns-in_default-clause-read
 returns-in_default-clause-read c = ValueAt.scalar c.scalar.new.text.items c.in_ok-after.ensures.read
@@ -27,5 +32,5 @@ returns-in_err-value-clause-read c =
     let not : NotBefore (closing kind) (behind_space inner) =
     subst (NotBefore (closing kind)) same (subst (λ (n : ℕ). NotBefore n first) c.closing.ensures c.in_default-behind_byte.ensures.is) in
     rw (p.1, p.2)
-    (faulty-from (NoItemAt kind first) (NoValueAt b) c.in_err-value.field-0.0
-    (λ none. no-inside kind b inner c.in-Some.ensures.is not (subst (NoItemAt kind) same none)) c.in_err-value.ensures.read)
+    (shows-from (ItemFault kind first) (ValueFault b) c.in_err-value.field-0.0
+    (λ fault left f. ValueFault.first kind inner c.in-Some.ensures.is not (subst (λ (l : List ℕ). ItemFault kind l fault left) same f)) c.in_err-value.ensures.read)

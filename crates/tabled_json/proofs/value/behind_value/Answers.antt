@@ -1,7 +1,8 @@
-use Rattle.tabled_json.proofs.Common.{◌≡◌, ◌∷◌, ◌<◌, Bool, true, false, List, arith, length, reverse, reversed-top, sym, subst, err_from_is_err_and, faulty-from}
-use Rattle.tabled_json.proofs.Nesting.{ValueRead, nest-no-end, nest-next, nest-whole, nest-inside}
+use Rattle.tabled_json.proofs.Common.{◌≡◌, ◌∷◌, ◌<◌, Bool, true, false, List, arith, length, reverse, reversed-top, sym, subst, err_from_is_err_and, shows-from}
+use Rattle.tabled_json.proofs.Nesting.{ValueRead, nest-fault, nest-no-end, nest-next, nest-whole, nest-inside}
+use Rattle.tabled_json.specs.Faults.{EndFault, ValueFault}
 use Rattle.tabled_json.specs.Grammar.{ValueAt}
-use Rattle.tabled_json.specs.WholeValues.{NoEndAt, NoValueAt, IsNext, IsInside}
+use Rattle.tabled_json.specs.WholeValues.{IsNext, IsInside}
 use Rattle.tabled_json.specs.declared.value.Kind.{Kind}
 use Rattle.tabled_json.proofs.value.behind_value.Goals as goal
 
@@ -15,7 +16,16 @@ returns-in_err-after-clause-read c =
     let top : reverse c.values.within.items ≡ kind ∷ left = reversed-top c.values.within.items c.pop.new.self.items kind c.in-Some.ensures.items in
     let read : ValueRead b true (kind ∷ left) rest =
     subst (λ (s : List Kind). ValueRead b true s rest) top (subst (λ (t : Bool). ValueRead b t (reverse c.values.within.items) rest) c.if-is_behind.true c.values.invariant.read) in
-    rw (p.1, p.2) (faulty-from (NoEndAt kind rest) (NoValueAt b) c.in_err-after.field-0.0 (nest-no-end b left rest kind read) c.in_err-after.ensures.read)
+    rw (p.1, p.2) (shows-from (EndFault kind rest) (ValueFault b) c.in_err-after.field-0.0 (nest-no-end b left rest kind read) c.in_err-after.ensures.read)
+
+pub returns-in_err-after-2-clause-read : goal.returns-in_err-after-2-clause-read
+returns-in_err-after-2-clause-read c =
+    let p = err_from_is_err_and c.from_residual-in_err-after-2.result c.from_residual-in_err-after-2.ensures.1 in
+    let b = c.args.bytes.now in
+    let rest = c.values.rest.now in
+    let within = reverse c.values.within.items in
+    let read : ValueRead b false within rest = subst (λ (t : Bool). ValueRead b t within rest) c.if-is_behind.false c.values.invariant.read in
+    rw (p.1, p.2) (shows-from (ValueFault rest) (ValueFault b) c.in_err-after-2.field-0.0 (nest-fault b within rest read) c.in_err-after-2.ensures.read)
 
 pub values-preserved-in-Next : goal.values-preserved-in-Next
 values-preserved-in-Next c =

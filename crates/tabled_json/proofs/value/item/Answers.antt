@@ -1,6 +1,6 @@
-use Rattle.tabled_json.proofs.Common.{Bor, List, ℕ, NoneAt, WasFaulty, match-from, faulty-from}
+use Rattle.tabled_json.proofs.Common.{Bor, List, ℕ, Shows, match-from}
 use Rattle.tabled_json.specs.Grammar.{KeyAt, ItemAt}
-use Rattle.tabled_json.specs.WholeValues.{NoItemAt}
+use Rattle.tabled_json.specs.Faults.{ItemFault, KeyFault}
 use Rattle.tabled_json.specs.declared.fault.Unread.{Unread}
 use Rattle.tabled_json.specs.declared.value.Kind.TheVariants.{Object}
 use Rattle.tabled_json.proofs.value.item.Goals as goal
@@ -10,7 +10,7 @@ returns-in-Object-clause-read c =
     let b = c.args.bytes.now in
     let t = c.key.new.text.items in
     rw c.in-Object.is
-    (match-from c.key.result (λ (value : Bor (List ℕ)). KeyAt b t value.now) (λ (value : Bor (List ℕ)). ItemAt Object b value.now) (WasFaulty (NoneAt KeyAt b)) (WasFaulty (NoItemAt Object b))
+    (match-from c.key.result (λ (value : Bor (List ℕ)). KeyAt b t value.now) (λ (value : Bor (List ℕ)). ItemAt Object b value.now) (Shows (KeyFault b)) (Shows (ItemFault Object b))
     (λ (value : Bor (List ℕ)) (p : KeyAt b t value.now). (t, p))
-    (λ (e : Unread). faulty-from (NoneAt KeyAt b) (NoItemAt Object b) e (λ none value i. none i.0 value i.1))
+    (λ (e : Unread) (f : Shows (KeyFault b) e). f)
     c.key.ensures.read)

@@ -1,0 +1,9 @@
+use Rattle.tabled_json.proofs.Faulty.{records-none, table-none}
+use Rattle.tabled_json.specs.Records.{behind_mark}
+use Rattle.tabled_json.proofs.laws.faulty_bytes_mean_nothing.Goals as goal
+
+pub returns : goal.returns
+returns c bytes = record {
+  records = λ line column fault f. records-none (behind_mark bytes) fault f.0 f.1;
+  table = λ line column fault f. table-none (behind_mark bytes) fault f.0 f.1;
+}
