@@ -6,9 +6,8 @@ use Rattle.std.specs.Option.{option_and_then}
 use Rattle.tabled_csv.specs.Faults.{IsFault}
 use Rattle.tabled_csv.specs.Grammar.{IsCsv}
 use Rattle.tabled_csv.specs.Reading.{NoRows}
+use Rattle.tabled_json.specs.Faults.{IsTableFault}
 use Rattle.tabled_json.specs.Meanings.{MeansNoTable, MeansTable}
-use Rattle.tabled_json.specs.Places.{IsPlace}
-use Rattle.tabled_json.specs.Records.{behind_mark}
 use Rattle.tabled_script.specs.declared.inputs.JoinError.{JoinError}
 use Rattle.tabled_script.specs.declared.inputs.JoinError.TheVariants as join_error
 use Rattle.tabled_script.specs.declared.inputs.RowsError.{RowsError}
@@ -31,7 +30,7 @@ abbrev pub IsFaultyIn : Format → List ℕ → ℕ → SourceFault → Type 0
 IsFaultyIn (format.Csv dialect) bytes line (source_fault.Csv fault) = NoRows dialect bytes × IsFault dialect bytes line fault
 IsFaultyIn (format.Csv dialect) bytes line (source_fault.Json column fault) = ⊥
 IsFaultyIn format.Json bytes line (source_fault.Csv fault) = ⊥
-IsFaultyIn format.Json bytes line (source_fault.Json column fault) = MeansNoTable bytes × IsPlace (behind_mark bytes) line column
+IsFaultyIn format.Json bytes line (source_fault.Json column fault) = MeansNoTable bytes × IsTableFault bytes line column fault
 
 -- a file has these rows
 abbrev pub HasRows : Source → List (List (List ℕ)) → Type 0
