@@ -1,6 +1,6 @@
 -- What is at fault has no meaning.
-use Rattle.tabled_json.proofs.Common.{◌≡◌, ◌∷◌, ◌∙◌, [], ℕ, List, Fault, NoneAt, ap, arith, subst, sym}
-use Rattle.tabled_json.proofs.Cells.{list-no-elements, list-no-open, member-none-cell, member-none-key, member-not-utf8, no-cell-value, not-utf8, object-not-empty, one-array, one-member, one-object}
+use Rattle.tabled_json.proofs.Common.{◌≡◌, ◌∷◌, ◌∙◌, ℕ, List, Fault, NoneAt, ap, arith, subst, sym}
+use Rattle.tabled_json.proofs.Cells.{list-no-elements, list-no-open, member-none-cell, member-none-key, member-not-utf8, no-cell-value, not-utf8, one-member, one-object}
 use Rattle.tabled_json.proofs.Contents.{escaped-back, plain-back, second-is}
 use Rattle.tabled_json.proofs.KeyParts.{item-unique, key-no-colon, key-no-content, key-no-quote}
 use Rattle.tabled_json.proofs.Lines.{bad-array, line-back, no-array, not-ended}
@@ -9,7 +9,7 @@ use Rattle.tabled_json.proofs.Meaning.{no-rows, one-cell, one-row, records-alone
 use Rattle.tabled_json.proofs.Scalars.{quote-none}
 use Rattle.tabled_json.proofs.WholeValues.{inside-back, items-back, more-items, no-end, no-inside, no-next, no-value, value-unique}
 use Rattle.tabled_json.specs.Faults.{ArrayFault, CellFault, CharacterAt, CharactersAt, ContentFault, ElementsFault, EndFault, ItemFault, ItemsFault, KeyFault, LinesFault, ListFault, MemberFault, ObjectFault, RecordsFault, RowFault, ScalarFault, TableFault, ValueFault}
-use Rattle.tabled_json.specs.Grammar.{AreLines, CellAt, ElementsAt, ItemAt, ItemsAt, KeyAt, ListAt, MemberAt, ObjectAt, RowAt, ScalarAt, ValueAt}
+use Rattle.tabled_json.specs.Grammar.{AreLines, CellAt, ElementsAt, ItemAt, ItemsAt, KeyAt, ListAt, MemberAt, ObjectAt, RowAt, ScalarAt}
 use Rattle.tabled_json.specs.Meanings.{HoldsNoTable, NoRows}
 use Rattle.tabled_json.specs.Records.{NoLines, NoRecords}
 use Rattle.tabled_json.specs.Space.{behind_space}

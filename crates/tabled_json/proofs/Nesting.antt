@@ -1,5 +1,5 @@
 -- Reading a value of any depth: what was passed over, what is open, and what is left.
-use Rattle.tabled_json.proofs.Common.{◌≡◌, ◌∷◌, ◌⊎◌, Fault, inl, inr, [], ℕ, List, Bool, true, false, refl, sym, subst}
+use Rattle.tabled_json.proofs.Common.{◌≡◌, ◌∷◌, ◌⊎◌, Fault, inl, inr, [], ℕ, List, Bool, true, false, refl, subst}
 use Rattle.tabled_json.proofs.WholeValues.{items-of}
 use Rattle.tabled_json.specs.Faults.{EndFault, ItemsFault, ValueFault}
 use Rattle.tabled_json.specs.Space.{behind_space}

@@ -1,7 +1,7 @@
 -- Where it shows first that bytes mean nothing, and why: what is before the place is as the grammar has it, and what stands there isn't.
 -- Each relation says that bytes begin with no such thing, why, and how many bytes are left where that shows.
-use Rattle.std.specs.Prelude.{◌≡◌, ◌==◌, ◌&&◌, ◌||◌, ◌<◌, nat_le, not, ℕ, Bool, true, false, None, Some, Option, List, [], ◌∷◌, if◌then◌else◌, length, IsUtf8}
-use Rattle.tabled_json.specs.Grammar.{CellAt, CellTextAt, ItemAt, KeyAt, ListAt, MemberAt, NumberAt, ObjectAt, RowAt, ScalarAt, ValueAt, WordAt, behind_word, closing, false_word, null_word, opening, true_word}
+use Rattle.std.specs.Prelude.{◌≡◌, ◌==◌, ◌&&◌, ◌||◌, nat_le, not, ℕ, Bool, true, false, None, Some, Option, List, [], ◌∷◌, if◌then◌else◌, length, IsUtf8}
+use Rattle.tabled_json.specs.Grammar.{CellAt, CellTextAt, KeyAt, ListAt, MemberAt, NumberAt, ObjectAt, RowAt, ScalarAt, ValueAt, WordAt, behind_word, closing, false_word, null_word, opening, true_word}
 use Rattle.tabled_json.specs.Meanings.{begins_rows}
 use Rattle.tabled_json.specs.Numbers.{is_numeric}
 use Rattle.tabled_json.specs.Places.{column_at, line_at}

@@ -1,6 +1,6 @@
 use Rattle.tabled_json.proofs.Common.{◌∙◌, ℕ, List, IsUtf8, length, refl, sym, subst, err_from_is_err_and, shows-from}
 use Rattle.tabled_json.specs.Faults.{CellFault, IsNoText, ScalarFault, ValueFault}
-use Rattle.tabled_json.specs.Grammar.{CellAt, CellTextAt, ScalarAt, before}
+use Rattle.tabled_json.specs.Grammar.{CellTextAt, ScalarAt, before}
 use Rattle.tabled_json.proofs.cell.cell.Goals as goal
 
 pub returns-in_err-after-clause-read : goal.returns-in_err-after-clause-read
