@@ -9,7 +9,7 @@ ghost use Rattle.tabled_json.specs.declared.fault.Fault.TheVariants.{Unexpected}
 
 use crate::cell::cell;
 use crate::fault::{Fault, Unread, unexpected, wanted};
-use crate::list::{Behind, behind_element};
+use crate::list::{Behind, behind_element, exact};
 use crate::room::Spare;
 use crate::space::{behind_byte, behind_space};
 use std::alloc::Global;
@@ -32,9 +32,9 @@ fn texts<'a>(
         let tail = behind_element(93, behind)?;
         match tail {
             Behind::Closed(after) => {
-                // Most rows have few texts: what is left over counts.
-                texts.shrink_to_fit();
-                return Ok((texts, after));
+                // Most rows have few texts: what would be left over counts, and shrinking leaves holes.
+                let own = exact(alloc, texts.as_slice())?;
+                return Ok((own, after));
             }
             Behind::Next(next) => rest = next,
         }

@@ -10,7 +10,7 @@ ghost use Rattle.tabled_json.specs.declared.fault.Fault.TheVariants.{Unexpected}
 
 use crate::cell::{behind_quote, cell, text_of};
 use crate::fault::{Fault, ReadError, Unread, unexpected, wanted};
-use crate::list::{Behind, behind_element};
+use crate::list::{Behind, behind_element, exact};
 use crate::member::Member;
 use crate::place::{behind_mark, told};
 use crate::room::{Room, Spare};
@@ -52,9 +52,9 @@ fn members<'a>(
         let tail = behind_element(125, behind)?;
         match tail {
             Behind::Closed(after) => {
-                // Most objects have few members: what is left over counts.
-                members.shrink_to_fit();
-                return Ok((members, after));
+                // Most objects have few members: what would be left over counts, and shrinking leaves holes.
+                let own = exact(alloc, members.as_slice())?;
+                return Ok((own, after));
             }
             Behind::Next(next) => rest = next,
         }

@@ -34,7 +34,7 @@ returns-in-Closed-clause-read c =
     let x = text_of c.in_ok-found.found in
     let behind = c.in_ok-found.behind.now in
     let after = c.in-Closed.after.now in
-    let all : map text_of c.shrink_to_fit.new.self.items ≡ xs ++ (x ∷ []) = ap (map text_of) (c.shrink_to_fit.ensures.items ∙ c.in_ok-push.ensures.items) ∙ map-append text_of c.texts.texts.items (c.in_ok-found.found ∷ []) in
+    let all : map text_of c.in_ok-own-in-Closed.own.items ≡ xs ++ (x ∷ []) = ap (map text_of) (c.in_ok-own-in-Closed.ensures ∙ (c.as_slice.ensures.value ∙ c.in_ok-push.ensures.items)) ∙ map-append text_of c.texts.texts.items (c.in_ok-found.found ∷ []) in
     let e : behind_space behind ≡ 93 ∷ after = rw c.in-Closed.is at c.in_ok-tail.ensures.read in
     rw all (elements-done CellAt CellFault 93 b c.texts.rest.now xs c.texts.invariant.read x behind after c.in_ok-found.ensures.read e)
 
