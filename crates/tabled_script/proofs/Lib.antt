@@ -1,4 +1,5 @@
 pub mod Again
+pub mod AlignedBy
 pub mod Changes
 pub mod Common
 pub mod EachOf

@@ -1,8 +1,8 @@
 -- Tests of the numbers from one on.
 use Rattle.std.proofs.lemmas.Bool.{cases_Bool}
 use Rattle.std.specs.List.{list_any, range_with_len}
-use Rattle.std.specs.Prelude.{Bool, true}
-use Rattle.tabled_script.proofs.Common.{◌+◌, ◌<◌, ◌≡◌, arith, inl, inr, refl, subst, suc, zero, ℕ}
+use Rattle.std.specs.Prelude.{Bool, true, zero}
+use Rattle.tabled_script.proofs.Common.{◌+◌, ◌<◌, ◌≡◌, arith, inl, inr, refl, subst, suc, ℕ}
 
 -- one of them passes where a number among them does
 pub any_in_range : (test : ℕ → Bool) (n from k : ℕ) → k < n → test (from + k) ≡ true → list_any test (range_with_len from n) ≡ true

@@ -4,10 +4,10 @@ use Rattle.std.specs.Option.{unwrap_or}
 use Rattle.std.specs.String.{string_bytes}
 use Rattle.tabled_json.specs.declared.form.Values.{Values}
 use Rattle.tabled_script.proofs.Common.{[], ◌∙◌, ◌∷◌, ◌≡◌, Global, List, Option, ap, inl, inr, length, map, refl, subst, sym, ℕ}
-use Rattle.tabled_script.specs.Aligners.{Aligner, listed}
+use Rattle.tabled_script.specs.Aligners.{Aligner}
 use Rattle.tabled_script.specs.Arguments.{Asked, Blamed, expect, has_taken, set_to, step_of, with_first_value}
 use Rattle.tabled_script.specs.Refusals.{IsRefused, Takes}
-use Rattle.tabled_script.specs.Requests.{IsForm, drawn_of, to_separator_of, values_of, width_of, writing_of, written_of}
+use Rattle.tabled_script.specs.Requests.{IsForm, aligner_asked, drawn_of, to_separator_of, values_of, width_of, writing_of, written_of}
 use Rattle.tabled_script.specs.declared.form.Form.{Form}
 use Rattle.tabled_script.specs.declared.arguments.Next.TheVariants as next
 use Rattle.tabled_script.specs.declared.refusal.Misuse.TheVariants as misuse
@@ -32,11 +32,11 @@ module _ (asked : Asked) (how : Written) (look : Drawn) (width : Option ℕ) (al
       IsForm (record { how = how; look = look; width = width; alignments = alignments; separator = separator; values = values; header = header; caption = caption }) form
 
   pub written_so : given how look width alignments separator values header caption → how ≡ written_of asked → look ≡ drawn_of asked → width ≡ width_of asked
-      → alignments ≡ unwrap_or asked.alignments (listed []) → separator ≡ to_separator_of asked → values ≡ values_of asked → header ≡ unwrap_or asked.header 0 → caption ≡ asked.caption → IsForm (writing_of asked) form
+      → alignments ≡ aligner_asked asked → separator ≡ to_separator_of asked → values ≡ values_of asked → header ≡ unwrap_or asked.header 0 → caption ≡ asked.caption → IsForm (writing_of asked) form
   written_so is hows looks widths lists parts valued headers captions =
-      subst (λ (x : Written). given x (drawn_of asked) (width_of asked) (unwrap_or asked.alignments (listed [])) (to_separator_of asked) (values_of asked) (unwrap_or asked.header 0) asked.caption) hows
-      (subst (λ (x : Drawn). given how x (width_of asked) (unwrap_or asked.alignments (listed [])) (to_separator_of asked) (values_of asked) (unwrap_or asked.header 0) asked.caption) looks
-      (subst (λ (x : Option ℕ). given how look x (unwrap_or asked.alignments (listed [])) (to_separator_of asked) (values_of asked) (unwrap_or asked.header 0) asked.caption) widths
+      subst (λ (x : Written). given x (drawn_of asked) (width_of asked) (aligner_asked asked) (to_separator_of asked) (values_of asked) (unwrap_or asked.header 0) asked.caption) hows
+      (subst (λ (x : Drawn). given how x (width_of asked) (aligner_asked asked) (to_separator_of asked) (values_of asked) (unwrap_or asked.header 0) asked.caption) looks
+      (subst (λ (x : Option ℕ). given how look x (aligner_asked asked) (to_separator_of asked) (values_of asked) (unwrap_or asked.header 0) asked.caption) widths
       (subst (λ (x : Aligner). given how look width x (to_separator_of asked) (values_of asked) (unwrap_or asked.header 0) asked.caption) lists
       (subst (λ (x : ℕ). given how look width alignments x (values_of asked) (unwrap_or asked.header 0) asked.caption) parts
       (subst (λ (x : Values). given how look width alignments separator x (unwrap_or asked.header 0) asked.caption) valued

@@ -15,6 +15,7 @@ use Rattle.tabled_language.specs.Script.{Script, start}
 use Rattle.tabled_language.specs.declared.fault.Fault.{Fault}
 use Rattle.tabled_language.specs.Output.{print}
 use Rattle.tabled_language.specs.RoundTrip.{IsTable}
+use Rattle.tabled_script.specs.Aligners.{aligner}
 use Rattle.tabled_script.specs.Narrow.{IsNarrowPicture, narrowed}
 use Rattle.tabled_script.specs.Html.{ShowsGrid, look_of}
 use Rattle.tabled_script.specs.Keys.{HasEqualKeys}
@@ -41,9 +42,9 @@ picture_of script = drawn (ended script).texts (ended script).spans
 -- a state is written as these bytes
 abbrev pub IsWrittenAs : Form → State → List ℕ → Type 0
 IsWrittenAs form.Script s bytes = bytes ≡ print s
-IsWrittenAs (form.Picture style alignments) s bytes = bytes ≡ drawn_with style (alignments s.texts) s.texts s.spans
-IsWrittenAs (form.NarrowPicture width style alignments) s bytes = IsNarrowPicture width style (alignments s.texts) s.texts s.spans bytes
-IsWrittenAs (form.Markdown alignments) s bytes = bytes ≡ markdown (alignments s.texts) s.texts s.spans
+IsWrittenAs (form.Picture style alignments) s bytes = bytes ≡ drawn_with style (aligner alignments s.texts) s.texts s.spans
+IsWrittenAs (form.NarrowPicture width style alignments) s bytes = IsNarrowPicture width style (aligner alignments s.texts) s.texts s.spans bytes
+IsWrittenAs (form.Markdown alignments) s bytes = bytes ≡ markdown (aligner alignments s.texts) s.texts s.spans
 IsWrittenAs (form.Csv separator) s bytes = bytes ≡ csv_of separator s.texts.cells
 IsWrittenAs (form.Json layout values) s bytes = bytes ≡ json_of layout values s.texts.cells
 IsWrittenAs (form.Html page) s bytes = bytes ≡ html s.texts s.spans (look_of page s.texts)

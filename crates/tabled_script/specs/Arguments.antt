@@ -6,7 +6,7 @@ use Rattle.std.specs.Option.{is_some, option_map, unwrap_or}
 use Rattle.std.specs.Str.{bytes_eq}
 use Rattle.std.specs.String.{string_bytes}
 use Rattle.tabled_language.specs.Word.{length_of}
-use Rattle.tabled_script.specs.Aligners.{Aligner, aligner_of}
+use Rattle.tabled_script.specs.Aligners.{aligning}
 use Rattle.tabled_script.specs.Settings.{drawn_named, forms, is_csv, named_in, options, read_by, separator_of, takes_value}
 use Rattle.tabled_script.specs.declared.arguments.Next.{Next}
 use Rattle.tabled_script.specs.declared.arguments.Next.TheVariants as next
@@ -24,7 +24,7 @@ pub record Asked : Type 0 where
   pub written : Option Written
   pub draws : Bool
   pub drawn : Option Drawn
-  pub alignments : Option Aligner
+  pub alignments : Option (List ℕ)
   pub width : Option ℕ
   pub columns : Option ℕ
   pub sources : List (Kind × List ℕ)
@@ -84,7 +84,7 @@ file_named name = if length name == 0 then None else Some name
 abbrev pub set_to : Setting → List ℕ → Asked → Asked
 set_to setting.Form name asked = record asked { written = named_in forms name }
 set_to setting.Style name asked = record asked { drawn = drawn_named name }
-set_to setting.Alignments value asked = record asked { alignments = aligner_of value }
+set_to setting.Alignments value asked = record asked { alignments = aligning value }
 set_to setting.Width number asked = record asked { width = length_of number }
 set_to setting.Columns number asked = record asked { columns = length_of number }
 set_to (setting.Rows kind) name asked = record asked { sources = asked.sources ++ (kind, name) ∷ []; reads_input = asked.reads_input || is_input name; reads_csv = asked.reads_csv || is_csv kind }

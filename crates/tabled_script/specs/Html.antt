@@ -12,6 +12,7 @@ use Rattle.tabled_html.specs.Limits.{keep_written}
 use Rattle.tabled_html.specs.Looks.{Look, plain_look}
 use Rattle.tabled_html.specs.declared.alignment.Alignment.{Alignment as HtmlAlignment}
 use Rattle.tabled_html.specs.declared.alignment.Alignment.TheVariants as html_alignment_of
+use Rattle.tabled_script.specs.Aligners.{aligner}
 use Rattle.tabled_script.specs.declared.html_form.HtmlPage.{HtmlPage}
 
 -- where a text stands in its cell, as it stands in that of a picture
@@ -31,7 +32,7 @@ look_with page alignments = record plain_look {
 
 -- how a table of texts is written, as it is asked for
 abbrev pub look_of : HtmlPage → Grid (List ℕ) → Look
-look_of page g = look_with page (map html_alignment (page.alignments g))
+look_of page g = look_with page (map html_alignment (aligner page.alignments g))
 
 -- the table that is written is read as elements that form the grid
 abbrev pub ShowsGrid : HtmlPage → Grid (List ℕ) → SpanMap → Type 0

@@ -1,5 +1,4 @@
 pub mod Again
-pub mod Aligned
 pub mod Aligners
 pub mod Answer
 pub mod Arguments

@@ -9,7 +9,7 @@ use Rattle.tabled_json.specs.declared.form.Layout.{Layout}
 use Rattle.tabled_json.specs.declared.form.Layout.TheVariants as layout
 use Rattle.tabled_json.specs.declared.form.Values.{Values}
 use Rattle.tabled_json.specs.declared.form.Values.TheVariants as values
-use Rattle.tabled_script.specs.Aligners.{Aligner, listed}
+use Rattle.tabled_script.specs.Aligners.{Aligner, aligner, aligner_of, listed}
 use Rattle.tabled_script.specs.Arguments.{Asked, is_set}
 use Rattle.tabled_script.specs.declared.arguments.Next.{Next}
 use Rattle.tabled_script.specs.declared.arguments.Next.TheVariants as next
@@ -189,14 +189,18 @@ pub record Writing : Type 0 where
 -- the form has what is said of it
 abbrev pub IsForm : Writing → Form → Type 0
 IsForm writing form.Script = writing.how ≡ written.Script
-IsForm writing (form.Picture style alignments) = (writing.how ≡ written.Picture) × (writing.look ≡ drawn.Style style) × (writing.width ≡ None) × (writing.alignments ≡ alignments)
+IsForm writing (form.Picture style alignments) = (writing.how ≡ written.Picture) × (writing.look ≡ drawn.Style style) × (writing.width ≡ None) × (writing.alignments ≡ aligner alignments)
 IsForm writing (form.NarrowPicture width style alignments) =
-    (writing.how ≡ written.Picture) × (writing.look ≡ drawn.Style style) × (writing.width ≡ Some width) × (writing.alignments ≡ alignments)
-IsForm writing (form.Markdown alignments) = (writing.how ≡ written.Picture) × (writing.look ≡ drawn.Markdown) × (writing.alignments ≡ alignments)
+    (writing.how ≡ written.Picture) × (writing.look ≡ drawn.Style style) × (writing.width ≡ Some width) × (writing.alignments ≡ aligner alignments)
+IsForm writing (form.Markdown alignments) = (writing.how ≡ written.Picture) × (writing.look ≡ drawn.Markdown) × (writing.alignments ≡ aligner alignments)
 IsForm writing (form.Csv byte) = (writing.how ≡ written.Csv) × (writing.separator ≡ byte)
 IsForm writing (form.Json laid values) = IsJson writing.how laid × (writing.values ≡ values)
 IsForm writing (form.Html page) =
-    IsHtml writing.how page.is_whole × (writing.header ≡ page.header) × (writing.caption ≡ option_map string_bytes page.caption) × (writing.alignments ≡ page.alignments)
+    IsHtml writing.how page.is_whole × (writing.header ≡ page.header) × (writing.caption ≡ option_map string_bytes page.caption) × (writing.alignments ≡ aligner page.alignments)
+
+-- how columns are aligned: by no list where that isn't asked for
+abbrev pub aligner_asked : Asked → Aligner
+aligner_asked asked = unwrap_or (option_and_then aligner_of asked.alignments) (listed [])
 
 -- how the table that is asked for is to be written
 abbrev pub writing_of : Asked → Writing
@@ -204,7 +208,7 @@ writing_of asked = record {
   how = written_of asked;
   look = drawn_of asked;
   width = width_of asked;
-  alignments = unwrap_or asked.alignments (listed []);
+  alignments = aligner_asked asked;
   separator = to_separator_of asked;
   values = values_of asked;
   header = unwrap_or asked.header 0;

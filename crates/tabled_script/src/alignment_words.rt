@@ -3,22 +3,21 @@
 ghost use Rattle.std.specs.List.{slice_split};
 ghost use Rattle.std.specs.Option.{option_map};
 ghost use Rattle.std.specs.Prelude.{◌≡◌, IfOk, map};
-ghost use Rattle.tabled_script.specs.Aligned.{rule_in};
-ghost use Rattle.tabled_script.specs.Aligners.{aligner_of, alignment_of, each_of, is_comma, rule_of, sole_alignment};
+ghost use Rattle.tabled_script.specs.Aligners.{aligner, aligner_of, alignment_of, each_of, is_comma, rule_in, rule_of, sole_alignment};
 
-use crate::alignments::{Alignments, Rule};
+use crate::alignments::{AlignmentRule, Alignments};
 use std::alloc::{AllocError, Global};
 use tabled_draw::Alignment;
 
 /// How a value aligns columns: by a letter for each place, or by rules between commas.
 pub(crate) fn aligner_of(alloc: Global, value: &str) -> Result<Option<Alignments>, AllocError>
-    ensures { IfOk result (λ alignments. alignments ≡ aligner_of value.now) }
+    ensures { IfOk result (λ alignments. option_map aligner alignments ≡ aligner_of value.now) }
 {
     if let Some(list) = alignments_of(alloc, value.as_bytes())? {
-        return Ok(Some(Alignments::listed(list)));
+        return Ok(Some(Alignments::Places(list)));
     }
     match rules_of(alloc, value)? {
-        Some(rules) => Ok(Some(Alignments::by_rules(rules))),
+        Some(rules) => Ok(Some(Alignments::Rules(rules))),
         None => Ok(None),
     }
 }
@@ -49,7 +48,7 @@ fn alignment_of(letter: u8) -> Option<Alignment>
 }
 
 /// The rules between commas, if each is one.
-fn rules_of(alloc: Global, value: &str) -> Result<Option<Vec<Rule>>, AllocError>
+fn rules_of(alloc: Global, value: &str) -> Result<Option<Vec<AlignmentRule>>, AllocError>
     ensures { IfOk result (λ rules. option_map (λ list. map rule_in list.items) rules ≡ each_of rule_of (slice_split is_comma value.now)) }
 {
     let mut rules = Vec::new(alloc);
@@ -63,11 +62,11 @@ fn rules_of(alloc: Global, value: &str) -> Result<Option<Vec<Rule>>, AllocError>
 }
 
 /// The rule that is told, if it is one: `auto`, or a name and a letter behind the last equals sign.
-fn rule_of(alloc: Global, part: &str) -> Result<Option<Rule>, AllocError>
+fn rule_of(alloc: Global, part: &str) -> Result<Option<AlignmentRule>, AllocError>
     ensures { IfOk result (λ rule. option_map rule_in rule ≡ rule_of part.now) }
 {
     if part == "auto" {
-        return Ok(Some(Rule::Numbers));
+        return Ok(Some(AlignmentRule::Numbers));
     }
     let Some((name, letters)) = part.rsplit_once('=') else {
         return Ok(None);
@@ -75,7 +74,7 @@ fn rule_of(alloc: Global, part: &str) -> Result<Option<Rule>, AllocError>
     let Some(alignment) = sole_alignment(letters) else {
         return Ok(None);
     };
-    Ok(Some(Rule::Name(String::from_str(alloc, name)?, alignment)))
+    Ok(Some(AlignmentRule::Name(String::from_str(alloc, name)?, alignment)))
 }
 
 /// The alignment of a text that is one letter.

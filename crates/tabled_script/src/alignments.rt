@@ -2,33 +2,35 @@
 
 ghost use Rattle.std.specs.Prelude.{◌≡◌, map};
 ghost use Rattle.tabled_grid.specs.Grid.{map_grid};
-ghost use Rattle.tabled_script.specs.Aligners.{alignment_by, has_below, is_of};
-ghost use Rattle.tabled_script.specs.Aligned.{rule_in};
+ghost use Rattle.tabled_script.specs.Aligners.{alignment_by, has_below, is_of, rule_in};
 ghost use Rattle.tabled_select.specs.Locators.{text_at};
 
 use std::alloc::{AllocError, Global};
-use std::marker::Model;
 use tabled_decimal::Decimal;
 use tabled_draw::Alignment;
 use tabled_grid::config::Position;
 use tabled_grid::records::{CellText, ExactRecords, PeekableRecords, Records};
 
-/// What says how the texts of some columns are aligned.
+/// How the texts of columns are aligned.
+///
+/// Of this project.
 #[derive(Drop)]
-pub(crate) enum Rule {
-    /// Those of numbers stand to the right.
-    Numbers,
-    /// Those with this text in the first row stand so.
-    Name(String, Alignment),
+pub enum Alignments {
+    /// By places: the last alignment counts for all columns behind it, and without one texts stand to the left.
+    Places(Vec<Alignment>),
+    /// By rules: the last one counts that says something of a column. Where none does, texts stand to the left.
+    Rules(Vec<AlignmentRule>),
 }
 
-/// What aligns columns.
+/// What says how the texts of some columns are aligned.
+///
+/// Of this project.
 #[derive(Drop)]
-pub(crate) enum Basis {
-    /// Their places.
-    Places(Vec<Alignment>),
-    /// Rules, of which the last one counts that says something of a column. Where none does, texts stand to the left.
-    Rules(Vec<Rule>),
+pub enum AlignmentRule {
+    /// To the right where the texts below the first row are numbers or empty, and not all empty.
+    Numbers,
+    /// So where the text in the first row is this.
+    Name(String, Alignment),
 }
 
 /// What a text below the first row is.
@@ -39,50 +41,10 @@ pub(crate) enum TextKind {
     Word,
 }
 
-/// How the texts of columns are aligned: by their places, where the last alignment counts for all columns behind it, and
-/// without one texts stand to the left; or by their names, and by whether they are numbers. A contract sees the alignments
-/// of a table's columns.
-///
-/// Of this project.
-#[derive(Drop)]
-pub struct Alignments {
-    basis: Basis,
-}
-
-impl Model for Alignments {
-    ghost use Rattle.tabled_script.specs.Aligned.{aligner_in};
-    ghost use Rattle.tabled_script.specs.Aligners.{Aligner};
-
-    ghost Value = { Aligner };
-
-    ghost view = { λ a. aligner_in a.basis };
-}
-
 impl Alignments {
-    ghost use Rattle.std.specs.Prelude.{◌≡◌, IfOk, map};
+    ghost use Rattle.std.specs.Prelude.{◌≡◌, IfOk};
     ghost use Rattle.tabled_grid.specs.Grid.{map_grid};
-    ghost use Rattle.tabled_script.specs.Aligned.{rule_in};
-    ghost use Rattle.tabled_script.specs.Aligners.{by_rules, listed};
-
-    /// By places.
-    ///
-    /// Of this project.
-    pub fn listed(list: Vec<Alignment>) -> Self
-        ensures { result ≡ listed list.items }
-    {
-        Alignments {
-            basis: Basis::Places(list),
-        }
-    }
-
-    /// By rules.
-    pub(crate) fn by_rules(rules: Vec<Rule>) -> Self
-        ensures { result ≡ by_rules (map rule_in rules.items) }
-    {
-        Alignments {
-            basis: Basis::Rules(rules),
-        }
-    }
+    ghost use Rattle.tabled_script.specs.Aligners.{aligner};
 
     /// The alignments of the columns of a store. It may be refused for memory.
     pub(crate) fn of_columns<R>(
@@ -94,11 +56,11 @@ impl Alignments {
         R: Records + ExactRecords + PeekableRecords,
         R::Cell: CellText,
         requires { R.is_well_formed records.now }
-        ensures { IfOk result (λ found. found.items ≡ self.now (map_grid R.Cell.text_of (R.grid records.now))) }
+        ensures { IfOk result (λ found. found.items ≡ aligner self.now (map_grid R.Cell.text_of (R.grid records.now))) }
     {
-        match &self.basis {
-            Basis::Places(list) => Vec::from_slice(alloc, list),
-            Basis::Rules(rules) => {
+        match self {
+            Alignments::Places(list) => Vec::from_slice(alloc, list),
+            Alignments::Rules(rules) => {
                 let mut found = Vec::new(alloc);
                 for column in 0..records.count_columns() {
                     found.push(alignment_by(rules, records, column))?;
@@ -111,9 +73,9 @@ impl Alignments {
     /// The names that it goes by.
     pub(crate) fn names(&self, alloc: Global) -> Result<Vec<&str>, AllocError> {
         let mut names = Vec::new(alloc);
-        if let Basis::Rules(rules) = &self.basis {
+        if let Alignments::Rules(rules) = self {
             for rule in rules {
-                if let Rule::Name(name, _) = rule {
+                if let AlignmentRule::Name(name, _) = rule {
                     names.push(name.as_str())?;
                 }
             }
@@ -123,7 +85,7 @@ impl Alignments {
 }
 
 /// The alignment of a column by rules.
-fn alignment_by<R>(rules: &[Rule], records: &R, column: usize) -> Alignment
+fn alignment_by<R>(rules: &[AlignmentRule], records: &R, column: usize) -> Alignment
 where
     R: Records + ExactRecords + PeekableRecords,
     R::Cell: CellText,
@@ -137,10 +99,10 @@ where
     alignment
 }
 
-impl Rule {
+impl AlignmentRule {
     ghost use Rattle.std.specs.Prelude.{◌≡◌};
     ghost use Rattle.tabled_grid.specs.Grid.{map_grid};
-    ghost use Rattle.tabled_script.specs.Aligned.{rule_in};
+    ghost use Rattle.tabled_script.specs.Aligners.{rule_in};
 
     /// How a column is aligned, if that is said of it.
     fn says<R>(&self, records: &R, column: usize) -> Option<Alignment>
@@ -151,7 +113,7 @@ impl Rule {
         ensures { result ≡ rule_in self.now (map_grid R.Cell.text_of (R.grid records.now)) column }
     {
         match self {
-            Rule::Numbers => {
+            AlignmentRule::Numbers => {
                 if !has_below(records, column, TextKind::Word)
                     && has_below(records, column, TextKind::Number)
                 {
@@ -159,7 +121,7 @@ impl Rule {
                 }
                 None
             }
-            Rule::Name(name, alignment) => {
+            AlignmentRule::Name(name, alignment) => {
                 if text_in(
                     records,
                     Position {

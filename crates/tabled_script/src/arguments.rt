@@ -3,13 +3,13 @@
 ghost use Rattle.std.specs.Option.{option_map};
 ghost use Rattle.std.specs.Prelude.{◌≡◌, ◌++◌, IfOk, OnOk, map};
 ghost use Rattle.std.specs.String.{string_bytes};
+ghost use Rattle.tabled_script.specs.Aligners.{aligning};
 ghost use Rattle.tabled_script.specs.Arguments.{file_named, has_taken, is_input, is_set, leaves_no_text, names_input, reads_input_again, set_to, step_ended, step_of, taken, text_of_word, with_dashed, with_first_value, with_option, with_option_and_value, with_value, with_word, words_of};
 ghost use Rattle.tabled_script.specs.Refusals.{IsRefused, Takes};
 ghost use Rattle.tabled_script.specs.Requests.{nothing_asked};
 ghost use Rattle.tabled_script.specs.Settings.{named_in, options};
 
 use crate::alignment_words::aligner_of;
-use crate::alignments::Alignments;
 use crate::refusal::{Misuse, Refusal};
 use crate::setting::{
     Drawn, Kind, Setting, Written, drawn_named, read_by, separator_of, written_named,
@@ -40,7 +40,7 @@ pub struct Arguments {
     pub(crate) written: Option<Written>,
     pub(crate) draws: bool,
     pub(crate) drawn: Option<Drawn>,
-    pub(crate) alignments: Option<Alignments>,
+    pub(crate) alignments: Option<String>,
     pub(crate) width: Option<usize>,
     pub(crate) columns: Option<usize>,
     pub(crate) sources: Vec<(Kind, String)>,
@@ -76,7 +76,7 @@ impl Model for Arguments {
       written = a.written;
       draws = a.draws;
       drawn = a.drawn;
-      alignments = a.alignments;
+      alignments = option_map string_bytes a.alignments;
       width = a.width;
       columns = a.columns;
       sources = named_files a.sources.items;
@@ -245,7 +245,7 @@ impl Arguments {
         match setting {
             Setting::Form => self.written = written_named(value),
             Setting::Style => self.drawn = drawn_named(value),
-            Setting::Alignments => self.alignments = aligner_of(alloc, value)?,
+            Setting::Alignments => self.alignments = aligning(alloc, value)?,
             Setting::Width => self.width = length_of(value),
             Setting::Columns => self.columns = length_of(value),
             Setting::Separator => self.separator = separator_of(value),
@@ -384,6 +384,16 @@ fn is_input(name: &str) -> bool
     ensures { result ≡ is_input name.now }
 {
     name == "-"
+}
+
+/// A value, if it aligns columns.
+fn aligning(alloc: Global, value: &str) -> Result<Option<String>, AllocError>
+    ensures { IfOk result (λ text. option_map string_bytes text ≡ aligning value.now) }
+{
+    match aligner_of(alloc, value)? {
+        Some(_) => Ok(Some(String::from_str(alloc, value)?)),
+        None => Ok(None),
+    }
 }
 
 /// The name of a file, if it is one.

@@ -1,13 +1,14 @@
 //! What the arguments ask for, as a whole.
 
 ghost use Rattle.std.specs.List.{find};
-ghost use Rattle.std.specs.Option.{option_map, unwrap_or};
+ghost use Rattle.std.specs.Option.{option_and_then, option_map, unwrap_or};
 ghost use Rattle.std.specs.Prelude.{◌≡◌, ◌++◌, ◌&&◌, ◌==◌, [], IfErr, IfOk, None, false, length, map, not};
 ghost use Rattle.std.specs.String.{string_bytes};
-ghost use Rattle.tabled_script.specs.Aligners.{listed};
+ghost use Rattle.tabled_script.specs.Aligners.{aligner, aligner_of, listed};
 ghost use Rattle.tabled_script.specs.Arguments.{is_set, named_files, step_of, words_of};
 ghost use Rattle.tabled_script.specs.Requests.{IsForm, IsUnmade, awaited, contradiction, deciding, dialect_of, drawn_of, files_of, format_of, goes_with, lacks_csv, named_source, says_html, says_something, script_of, separator_of, settings_of_forms, to_separator_of, unread_files, values_of, writing_of, width_of, written_of};
 
+use crate::alignment_words::aligner_of;
 use crate::alignments::Alignments;
 use crate::arguments::{Arguments, Next, push_step};
 use crate::form::Form;
@@ -91,7 +92,7 @@ impl Arguments {
         } = self;
         push_step(&mut steps, step)?;
         let script = script_of(alloc, script, is_alone)?;
-        let alignments = aligned(alloc, alignments);
+        let alignments = aligned(alloc, alignments)?;
         let form = form_of(
             written,
             look,
@@ -289,7 +290,7 @@ fn form_of(
       how = written;
       look = look;
       width = width;
-      alignments = alignments;
+      alignments = aligner alignments;
       separator = separator;
       values = values;
       header = header;
@@ -321,14 +322,16 @@ fn form_of(
     }
 }
 
-/// How columns are aligned: by no list where that isn't asked for.
-fn aligned(alloc: Global, alignments: Option<Alignments>) -> Alignments
-    ensures { result ≡ unwrap_or alignments (listed []) }
+/// How columns are aligned by a value: by no list where there is none.
+fn aligned(alloc: Global, value: Option<String>) -> Result<Alignments, AllocError>
+    ensures { IfOk result (λ alignments. aligner alignments ≡ unwrap_or (option_and_then aligner_of (option_map string_bytes value)) (listed [])) }
 {
-    match alignments {
-        Some(alignments) => alignments,
-        None => Alignments::listed(Vec::new(alloc)),
+    if let Some(value) = value {
+        if let Some(alignments) = aligner_of(alloc, value.as_str())? {
+            return Ok(alignments);
+        }
     }
+    Ok(Alignments::Places(Vec::new(alloc)))
 }
 
 /// The file of the script: standard input where none is asked for, and there are no files of rows.

@@ -38,7 +38,7 @@ mod told_words;
 mod watched;
 mod words;
 
-pub use alignments::Alignments;
+pub use alignments::{AlignmentRule, Alignments};
 pub use arguments::Arguments;
 pub use form::Form;
 pub use help::{Telling, told_instead};

@@ -10,15 +10,15 @@ use tabled_steps::{Select, Step};
 
 /// That a step of these words goes by names that no column of a table has, and those that there are; nothing where it
 /// goes by none.
-pub(crate) fn unknown_names_text(
+pub(crate) fn unknown_names_text<'s>(
     alloc: Global,
-    step: &Step,
-    words: &[String],
+    step: &'s Step,
+    words: &'s [String],
     records: &[Vec<LentText>],
 ) -> Result<Option<String>, AllocError> {
     let mut names = Vec::new(alloc);
     push_names(&mut names, step, words)?;
-    unknown_text(alloc, &names, records)
+    unknown_text(alloc, &names, first_row(records))
 }
 
 /// That columns are aligned by names that none of them has, in a line with those that there are.
@@ -28,9 +28,17 @@ pub(crate) fn unknown_alignments_line(
     records: &[Vec<LentText>],
 ) -> Result<Option<String>, AllocError> {
     let names = alignments.names(alloc)?;
-    match unknown_text(alloc, &names, records)? {
+    match unknown_text(alloc, &names, first_row(records))? {
         Some(text) => Ok(Some(format!(in alloc; "tabled_script: --align: {text}\n")?)),
         None => Ok(None),
+    }
+}
+
+/// The first row, an empty one where there is none.
+fn first_row<'r, 'a>(records: &'r [Vec<LentText<'a>>]) -> &'r [LentText<'a>] {
+    match records.first() {
+        Some(row) => row,
+        None => &[],
     }
 }
 
@@ -38,12 +46,8 @@ pub(crate) fn unknown_alignments_line(
 fn unknown_text(
     alloc: Global,
     names: &[&str],
-    records: &[Vec<LentText>],
+    first_row: &[LentText],
 ) -> Result<Option<String>, AllocError> {
-    let first_row = match records.first() {
-        Some(row) => row.as_slice(),
-        None => &[],
-    };
     let mut unknown = ToldWords::new(alloc);
     for name in names {
         if !first_row.iter().any(|text| text.text() == *name) {

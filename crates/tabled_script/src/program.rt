@@ -66,7 +66,7 @@ pub fn draw_script<R: Read, W: Write>(alloc: Global, reader: &mut R, writer: &mu
         (fault : ℕ × Fault) × (parse input ≡ Err fault) × Appends (W.contents writer.old) (W.contents writer.new) (fault_line fault)) }
     ensures memory { result ≡ out_of_memory → Appends (W.contents writer.old) (W.contents writer.new) memory_line }
 {
-    let form = Form::Picture(Style::ascii(), Alignments::listed(Vec::new(alloc)));
+    let form = Form::Picture(Style::ascii(), Alignments::Places(Vec::new(alloc)));
     run_to_form(alloc, form, reader, writer)
 }
 

@@ -8,7 +8,7 @@ use tabled_width::columns_of;
 
 /// The status of a script whose table is drawn in at most so many columns, and whether no line of its picture is wider.
 fn draw_in(alloc: Global, script: &str, width: usize) -> Result<(u8, bool), Fail> {
-    let form = Form::NarrowPicture(width, Style::modern(), Alignments::listed(Vec::new(alloc)));
+    let form = Form::NarrowPicture(width, Style::modern(), Alignments::Places(Vec::new(alloc)));
     let mut written = Vec::new(alloc);
     let mut errors = Vec::new(alloc);
     let request = Request::new(alloc, form);

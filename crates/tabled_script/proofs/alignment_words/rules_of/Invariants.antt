@@ -1,6 +1,5 @@
 use Rattle.tabled_script.proofs.Common.{◌≡◌, Some, map}
-use Rattle.tabled_script.specs.Aligned.{rule_in}
-use Rattle.tabled_script.specs.Aligners.{each_of, rule_of}
+use Rattle.tabled_script.specs.Aligners.{each_of, rule_in, rule_of}
 use Rattle.tabled_script.proofs.alignment_words.rules_of.Given as goal
 
 abbrev pub invariant-loop-part : goal.invariant-loop-part

@@ -1,6 +1,5 @@
 use Rattle.tabled_script.proofs.Common.{◌≡◌, map, map_grid, take}
-use Rattle.tabled_script.specs.Aligned.{rule_in}
-use Rattle.tabled_script.specs.Aligners.{alignment_by}
+use Rattle.tabled_script.specs.Aligners.{alignment_by, rule_in}
 use Rattle.tabled_script.proofs.alignments.alignment_by.Given as goal
 
 abbrev pub invariant-loop-rule : goal.invariant-loop-rule

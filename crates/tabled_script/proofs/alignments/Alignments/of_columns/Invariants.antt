@@ -1,7 +1,6 @@
 use Rattle.std.specs.List.{range_with_len}
 use Rattle.tabled_script.proofs.Common.{◌≡◌, ◌≤◌, map, map_grid}
-use Rattle.tabled_script.specs.Aligned.{rule_in}
-use Rattle.tabled_script.specs.Aligners.{alignment_by}
+use Rattle.tabled_script.specs.Aligners.{alignment_by, rule_in}
 use Rattle.tabled_script.proofs.alignments.Alignments.of_columns.Given as goal
 
 abbrev pub invariant-loop-column : goal.invariant-loop-column

@@ -5,18 +5,18 @@ use Rattle.std.specs.String.{string_bytes}
 use Rattle.tabled_script.proofs.Common.{[], ◌∙◌, List, Option, ap, ap₂, ℕ}
 use Rattle.tabled_script.proofs.Taken.{written_so}
 use Rattle.tabled_csv.specs.Grammar.{Dialect}
-use Rattle.tabled_script.specs.Aligners.{listed}
+use Rattle.tabled_script.specs.Aligners.{aligner}
 use Rattle.tabled_script.specs.Arguments.{Asked}
-use Rattle.tabled_script.specs.Requests.{script_of, unread_files}
+use Rattle.tabled_script.specs.Requests.{aligner_asked, script_of, unread_files}
 use Rattle.tabled_script.specs.declared.setting.Kind.{Kind}
 use Rattle.tabled_script.proofs.arguments.Arguments.into_invocation.Goals as goal
 
 pub returns-clause-form : goal.returns-clause-form
 returns-clause-form c =
-    written_so c.args.self c.written-written.result c.look-look.result c.picture_width-width.result c.aligned-alignments.result c.written_separator-to_separator.result c.values-values.result
+    written_so c.args.self c.written-written.result c.look-look.result c.picture_width-width.result (aligner c.in_ok-alignments.alignments) c.written_separator-to_separator.result c.values-values.result
     c.header_rows-header.result (option_map string_bytes c.self.inside.caption) c.form_of-form.result c.form_of-form.ensures
     c.written-written.ensures c.look-look.ensures c.picture_width-width.ensures
-    (c.aligned-alignments.ensures ∙ ap (λ (a : Asked). unwrap_or a.alignments (listed [])) c.self.view_is)
+    (c.in_ok-alignments.ensures ∙ ap aligner_asked c.self.view_is)
     c.written_separator-to_separator.ensures c.values-values.ensures c.header_rows-header.ensures (ap (λ (a : Asked). a.caption) c.self.view_is)
 
 pub returns-clause-sources : goal.returns-clause-sources
