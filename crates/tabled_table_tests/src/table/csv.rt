@@ -8,10 +8,20 @@ use tabled_csv::{
 };
 use tabled_grid::records::VecRecords;
 
+/// The rows that bytes mean in a dialect.
+fn rows_in<'a>(
+    alloc: Global,
+    dialect: Dialect,
+    bytes: &'a [u8],
+    room: &'a mut Room,
+) -> Result<Vec<Vec<&'a str>>, ReadError> {
+    read_with(alloc, dialect, bytes, &mut Spare::new(room))
+}
+
 /// What bytes are read as: rows with `|` behind each field and `/` behind each row, or the error.
 fn shown(alloc: Global, dialect: Dialect, bytes: &[u8]) -> Result<String, Fail> {
     let mut room = Room::new(alloc)?;
-    let rows: Vec<Vec<&str>> = match read_with(alloc, dialect, bytes, &mut Spare::new(&mut room)) {
+    let rows = match rows_in(alloc, dialect, bytes, &mut room) {
         Ok(rows) => rows,
         Err(error) => return Ok(format!(in alloc; "{error}")?),
     };
@@ -184,26 +194,24 @@ fn tells_a_failing_writer(rt: HostRuntime) {
     }
 }
 
-/// Reads some bytes with quotes, and says whether that is right or refused.
+/// Reads some bytes with quotes in a dialect, and says whether that is right or refused.
+fn is_read_or_refused(alloc: Global, dialect: Dialect, bytes: &[u8]) -> bool {
+    let Ok(mut room) = Room::new(alloc) else {
+        return true;
+    };
+    match rows_in(alloc, dialect, bytes, &mut room) {
+        Ok(rows) => !rows.is_empty(),
+        Err(error) => error == ReadError::OutOfMemory,
+    }
+}
+
 #[test]
 fn reads_or_is_refused(rt: HostRuntime) {
+    let dialect = Dialect::new(Separator::comma());
     for bytes in ["a,b\n", "\"a\"\"b\"\n\"c\"\"\"\n"] {
-        let Ok(mut room) = Room::new(rt.alloc()) else {
-            return;
-        };
-        let mut spare = Spare::new(&mut room);
         for quoting in [true, false] {
-            let dialect = Dialect::new(Separator::comma()).quoting(quoting);
-            let read: Result<Vec<Vec<&str>>, ReadError> = read_with(
-                rt.alloc(),
-                dialect,
-                bytes.as_bytes(),
-                &mut spare,
-            );
-            match read {
-                Ok(rows) => assert!(rt; !rows.is_empty()),
-                Err(error) => assert!(rt; error == ReadError::OutOfMemory),
-            }
+            let dialect = dialect.quoting(quoting);
+            assert!(rt; is_read_or_refused(rt.alloc(), dialect, bytes.as_bytes()));
         }
     }
 }
