@@ -3,6 +3,7 @@ pub mod AlignedBy
 pub mod Changes
 pub mod Common
 pub mod EachOf
+pub mod Failures
 pub mod Levels
 pub mod Narrowed
 pub mod Outcomes

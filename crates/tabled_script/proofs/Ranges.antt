@@ -15,6 +15,6 @@ any_in_range test (suc n) from (suc k) inside passes =
     let next : from + suc k ≡ (from + 1) + k = omega arith in
     let behind = any_in_range test n (from + 1) k (omega (arith, inside)) (subst (λ (i : ℕ). test i ≡ true) next passes) in
     elim (cases_Bool (test from)) [
-      | inl yes ↦ rw yes refl
-      | inr no ↦ rw (no, behind) refl
+      | inl passing ↦ rw passing refl
+      | inr failing ↦ rw (failing, behind) refl
     ]

@@ -1,8 +1,7 @@
 -- How the texts of columns are aligned, by what stands in them.
-use Rattle.std.specs.Prelude.{ℕ, ◌-◌, ◌==◌, ◌&&◌, Bool, if◌then◌else◌, not, List, [], ◌∷◌, codes, length, map, Option, None, Some, bytes_eq}
-use Rattle.std.specs.List.{fold, list_any, range_with_len, slice_split}
+use Rattle.std.specs.Prelude.{ℕ, ◌-◌, ◌==◌, ◌&&◌, Bool, if◌then◌else◌, not, List, [], ◌∷◌, codes, length, map, nat_lt, Option, None, Some, bytes_eq}
+use Rattle.std.specs.List.{after_first, before_first, fold, list_any, position_or_len, range_with_len, slice_split}
 use Rattle.std.specs.Option.{is_some, option_and_then, option_map, option_or, unwrap_or}
-use Rattle.std.specs.Path.{rsplit_once}
 use Rattle.std.specs.String.{string_bytes}
 use Rattle.tabled_decimal.specs.Numbers.{decimal}
 use Rattle.tabled_draw.specs.declared.alignment.Alignment.{Alignment}
@@ -86,11 +85,17 @@ sole_alignment [] = None
 sole_alignment (letter ∷ []) = alignment_of letter
 sole_alignment (letter ∷ next ∷ letters) = None
 
--- what a part of a value says: `auto`, or a name and a letter behind the last equals sign
+-- a byte is the equals sign
+abbrev pub is_equals : ℕ → Bool
+is_equals byte = byte == 61
+
+-- what a part of a value says: `auto`, or a name, an equals sign and a letter
 abbrev pub rule_of : List ℕ → Option ColumnRule
 rule_of part =
     if bytes_eq part (codes "auto") then Some numbers_right
-    else option_and_then (λ (both : List ℕ × List ℕ). option_map (named_so both.0) (sole_alignment both.1)) (rsplit_once 61 part)
+    else (if nat_lt (position_or_len is_equals part) (length part)
+    then option_map (named_so (before_first is_equals part)) (sole_alignment (after_first is_equals part))
+    else None)
 
 -- a byte is a comma
 abbrev pub is_comma : ℕ → Bool

@@ -6,7 +6,7 @@ use Rattle.std.specs.Option.{is_some, option_map, unwrap_or}
 use Rattle.std.specs.Str.{bytes_eq}
 use Rattle.std.specs.String.{string_bytes}
 use Rattle.tabled_language.specs.Word.{length_of}
-use Rattle.tabled_script.specs.Aligners.{aligning}
+use Rattle.tabled_script.specs.Aligners.{aligning, is_equals}
 use Rattle.tabled_script.specs.Settings.{drawn_named, forms, is_csv, named_in, options, read_by, separator_of, takes_value}
 use Rattle.tabled_script.specs.declared.arguments.Next.{Next}
 use Rattle.tabled_script.specs.declared.arguments.Next.TheVariants as next
@@ -138,10 +138,6 @@ with_option (Some setting) option asked = Ok (expect (next.Value setting) asked)
 abbrev pub with_option_and_value : Option Setting → List ℕ → List ℕ → Asked → Result Asked Blamed
 with_option_and_value None option value asked = Err (misuse.NoOption, option)
 with_option_and_value (Some setting) option value asked = if takes_value setting then with_value setting value asked else Err (misuse.NeedlessValue setting, value)
-
--- a byte is the equals sign
-abbrev pub is_equals : ℕ → Bool
-is_equals byte = byte == 61
 
 -- what is asked for once there is an argument that begins with a minus: `--` ends the options, and `=` stands between an option and its value
 abbrev pub with_dashed : List ℕ → Asked → Result Asked Blamed

@@ -61,14 +61,14 @@ fn rules_of(alloc: Global, value: &str) -> Result<Option<Vec<AlignmentRule>>, Al
     Ok(Some(rules))
 }
 
-/// The rule that is told, if it is one: `auto`, or a name and a letter behind the last equals sign.
+/// The rule that is told, if it is one: `auto`, or a name, an equals sign and a letter.
 fn rule_of(alloc: Global, part: &str) -> Result<Option<AlignmentRule>, AllocError>
     ensures { IfOk result (λ rule. option_map rule_in rule ≡ rule_of part.now) }
 {
     if part == "auto" {
         return Ok(Some(AlignmentRule::Numbers));
     }
-    let Some((name, letters)) = part.rsplit_once('=') else {
+    let Some((name, letters)) = part.split_once('=') else {
         return Ok(None);
     };
     let Some(alignment) = sole_alignment(letters) else {

@@ -69,19 +69,6 @@ impl Alignments {
             }
         }
     }
-
-    /// The names that it goes by.
-    pub(crate) fn names(&self, alloc: Global) -> Result<Vec<&str>, AllocError> {
-        let mut names = Vec::new(alloc);
-        if let Alignments::Rules(rules) = self {
-            for rule in rules {
-                if let AlignmentRule::Name(name, _) = rule {
-                    names.push(name.as_str())?;
-                }
-            }
-        }
-        Ok(names)
-    }
 }
 
 /// The alignment of a column by rules.

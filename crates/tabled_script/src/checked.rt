@@ -91,8 +91,9 @@ impl Look {
     ) -> Result<Option<Doubt>, AllocError>
         requires { IsEven (grid_of (map_items records.now.items)) }
     {
-        let Some(table) = self.table else {
-            return Ok(self.doubt);
+        let Look { doubt, table } = self;
+        let Some(table) = table else {
+            return Ok(doubt);
         };
         if printed(alloc, records, spans)? == table {
             return Ok(Some(Doubt::ChangesNothing));

@@ -1,6 +1,6 @@
 //! The names of columns that steps and alignments go by, where no column has them.
 
-use crate::alignments::Alignments;
+use crate::alignments::{AlignmentRule, Alignments};
 use crate::told_words::ToldWords;
 use std::alloc::{AllocError, Global};
 use tabled_grid::records::CellText;
@@ -10,15 +10,15 @@ use tabled_steps::{Select, Step};
 
 /// That a step of these words goes by names that no column of a table has, and those that there are; nothing where it
 /// goes by none.
-pub(crate) fn unknown_names_text<'s>(
+pub(crate) fn unknown_names_text(
     alloc: Global,
-    step: &'s Step,
-    words: &'s [String],
+    step: &Step,
+    words: &[String],
     records: &[Vec<LentText>],
 ) -> Result<Option<String>, AllocError> {
-    let mut names = Vec::new(alloc);
-    push_names(&mut names, step, words)?;
-    unknown_text(alloc, &names, first_row(records))
+    let mut unknown = ToldWords::new(alloc);
+    push_unknown_in_step(alloc, &mut unknown, step, words, records)?;
+    unknown_text(alloc, &unknown, records)
 }
 
 /// That columns are aligned by names that none of them has, in a line with those that there are.
@@ -27,52 +27,69 @@ pub(crate) fn unknown_alignments_line(
     alignments: &Alignments,
     records: &[Vec<LentText>],
 ) -> Result<Option<String>, AllocError> {
-    let names = alignments.names(alloc)?;
-    match unknown_text(alloc, &names, first_row(records))? {
+    let mut unknown = ToldWords::new(alloc);
+    if let Alignments::Rules(rules) = alignments {
+        for rule in rules {
+            if let AlignmentRule::Name(name, _) = rule {
+                push_unknown(alloc, &mut unknown, name.as_str(), records)?;
+            }
+        }
+    }
+    match unknown_text(alloc, &unknown, records)? {
         Some(text) => Ok(Some(format!(in alloc; "tabled_script: --align: {text}\n")?)),
         None => Ok(None),
     }
 }
 
-/// The first row, an empty one where there is none.
-fn first_row<'r, 'a>(records: &'r [Vec<LentText<'a>>]) -> &'r [LentText<'a>] {
-    match records.first() {
-        Some(row) => row,
-        None => &[],
-    }
-}
-
-/// That no column has some of these names, and those that there are; nothing where each is one.
+/// That no column has these names, and those that there are; nothing where there are none of these.
 fn unknown_text(
     alloc: Global,
-    names: &[&str],
-    first_row: &[LentText],
+    unknown: &ToldWords,
+    records: &[Vec<LentText>],
 ) -> Result<Option<String>, AllocError> {
-    let mut unknown = ToldWords::new(alloc);
-    for name in names {
-        if !first_row.iter().any(|text| text.text() == *name) {
-            unknown.push(alloc, name.as_bytes())?;
-        }
-    }
     if unknown.words.is_empty() {
         return Ok(None);
     }
     let mut told = String::from_str(alloc, "no column is named")?;
     unknown.push_to(&mut told)?;
-    if first_row.is_empty() {
-        told.push_str(": there is none")?;
-    } else {
-        told.push_str(": the first row has")?;
-        ToldWords::of_texts(alloc, first_row)?.push_to(&mut told)?;
+    match records.first() {
+        Some(row) if !row.is_empty() => {
+            told.push_str(": the first row has")?;
+            ToldWords::of_texts(alloc, row)?.push_to(&mut told)?;
+        }
+        _ => told.push_str(": there is none")?,
     }
     Ok(Some(told))
 }
 
-/// Adds the names of columns that a step goes by, those of kept lines by its words.
-fn push_names<'s>(
-    names: &mut Vec<&'s str>,
-    step: &'s Step,
-    words: &'s [String],
+/// Adds a name, if no column has it.
+fn push_unknown(
+    alloc: Global,
+    unknown: &mut ToldWords,
+    name: &str,
+    records: &[Vec<LentText>],
+) -> Result<(), AllocError> {
+    if is_name(name, records) {
+        return Ok(());
+    }
+    unknown.push(alloc, name.as_bytes())
+}
+
+/// Says whether a text stands in the first row.
+fn is_name(name: &str, records: &[Vec<LentText>]) -> bool {
+    match records.first() {
+        Some(row) => row.iter().any(|text| text.text() == name),
+        None => false,
+    }
+}
+
+/// Adds the names of columns that a step goes by and no column has, those of kept lines by its words.
+fn push_unknown_in_step(
+    alloc: Global,
+    unknown: &mut ToldWords,
+    step: &Step,
+    words: &[String],
+    records: &[Vec<LentText>],
 ) -> Result<(), AllocError> {
     match step {
         Step::Set(select, _)
@@ -82,20 +99,20 @@ fn push_names<'s>(
         | Step::Replace(_, _, select)
         | Step::ColumnSpan(_, select)
         | Step::RowSpan(_, select)
-        | Step::Merge(_, select) => push_selected(names, select),
+        | Step::Merge(_, select) => push_unknown_selected(alloc, unknown, select, records),
         Step::Dup(destination, source) => {
-            push_selected(names, destination)?;
-            push_selected(names, source)
+            push_unknown_selected(alloc, unknown, destination, records)?;
+            push_unknown_selected(alloc, unknown, source, records)
         }
-        Step::RemoveNamed(name) => Ok(names.push(name.as_str())?),
+        Step::RemoveNamed(name) => push_unknown(alloc, unknown, name.as_str(), records),
         Step::Sort(sort) => match &sort.column {
-            SortColumn::Name(name) => Ok(names.push(name.as_str())?),
+            SortColumn::Name(name) => push_unknown(alloc, unknown, name.as_str(), records),
             SortColumn::Index(_) => Ok(()),
         },
         Step::KeepColumns(_) => {
             for word in words.iter().skip(2) {
                 if let Some(name) = named_column(word.as_str()) {
-                    names.push(name)?;
+                    push_unknown(alloc, unknown, name, records)?;
                 }
             }
             Ok(())
@@ -103,7 +120,7 @@ fn push_names<'s>(
         Step::KeepRows(_) => {
             for word in words.iter().skip(2) {
                 if let Some(name) = tested_column(word.as_str()) {
-                    names.push(name)?;
+                    push_unknown(alloc, unknown, name, records)?;
                 }
             }
             Ok(())
@@ -112,18 +129,23 @@ fn push_names<'s>(
     }
 }
 
-/// Adds the names of columns in a selector.
-fn push_selected<'s>(names: &mut Vec<&'s str>, select: &'s Select) -> Result<(), AllocError> {
+/// Adds the names of columns in a selector that no column has.
+fn push_unknown_selected(
+    alloc: Global,
+    unknown: &mut ToldWords,
+    select: &Select,
+    records: &[Vec<LentText>],
+) -> Result<(), AllocError> {
     match select {
-        Select::Name(name) => Ok(names.push(name.as_str())?),
+        Select::Name(name) => push_unknown(alloc, unknown, name.as_str(), records),
         Select::And(first, second)
         | Select::Not(first, second)
         | Select::Intersect(first, second) => {
-            push_selected(names, first)?;
-            push_selected(names, second)
+            push_unknown_selected(alloc, unknown, first, records)?;
+            push_unknown_selected(alloc, unknown, second, records)
         }
         Select::Inverse(select) | Select::Skip(_, select) | Select::StepBy(_, select) => {
-            push_selected(names, select)
+            push_unknown_selected(alloc, unknown, select, records)
         }
         _ => Ok(()),
     }

@@ -368,11 +368,11 @@ fn arguments_ask_for_steps_and_forms(rt: HostRuntime) -> Result<(), Fail> {
             "",
         ),
         (
-            "--csv|f|--width|40|--align|auto,n=c,a=b=r,n=r",
-            "nn,a=b,n\n1,x,2 2\n",
+            "--csv|f|--width|40|--align|auto,n=c,a b=r,n=r",
+            "nn,a b,n\n1,x,2 2\n",
             "",
             0,
-            "+----+-----+-----+\n| nn | a=b |   n |\n+----+-----+-----+\n|  1 |   x | 2 2 |\n+----+-----+-----+\n",
+            "+----+-----+-----+\n| nn | a b |   n |\n+----+-----+-----+\n|  1 |   x | 2 2 |\n+----+-----+-----+\n",
             "",
         ),
         (

@@ -10,3 +10,11 @@ returns-in-Ok-clause-written g c =
     let look : c.look_with-look.result ≡ look_of c.args.page.now texts = c.look_with-look.ensures ∙ ap (look_with c.args.page.now) alignments in
     let written = rw look at c.in-Ok.ensures.written in
     search rules
+
+pub returns-in-Ok-clause-shows : goal.returns-in-Ok-clause-shows
+returns-in-Ok-clause-shows g c =
+    let texts = texts_in c.args.records.now.items in
+    let alignments = c.deref-2.ensures.value ∙ c.in_ok-alignments-2.ensures ∙ ap (map html_alignment) (c.deref.ensures.value ∙ c.in_ok-alignments.ensures) in
+    let look : c.look_with-look.result ≡ look_of c.args.page.now texts = c.look_with-look.ensures ∙ ap (look_with c.args.page.now) alignments in
+    let shows = rw look at c.in-Ok.ensures.shows in
+    search rules

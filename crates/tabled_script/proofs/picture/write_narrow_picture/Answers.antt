@@ -3,6 +3,7 @@ use Rattle.tabled_draw.proofs.Common.{Some, map_grid}
 use Rattle.tabled_draw.specs.Width.{picture_width}
 use Rattle.tabled_grid.specs.Grid.{Grid, grid_of, map_items}
 use Rattle.tabled_script.proofs.Common.{◌<◌, ◌∙◌, ◌≡◌, ◌≤◌, List, ap, arith, on_ok_weaker, refl, sym, ℕ}
+use Rattle.tabled_script.proofs.Failures.{memory_fails, only_fails}
 use Rattle.tabled_script.proofs.Narrowed.{cut-drawn, picture-written, pieces-drawn, whole-drawn, wider-undrawn}
 use Rattle.tabled_script.specs.Narrow.{at_widest_pieces, cut_to}
 use Rattle.tabled_script.proofs.picture.write_narrow_picture.Goals as goal
@@ -60,3 +61,15 @@ returns-clause-written g c =
     on_ok_weaker c.write_drawing-2.result
     (picture-written style m t n c.args.alignments.now least c.in_ok-least.least _ _ (pieces-drawn style m t n wide pieces as_cut ∙ ap Some (sym c.in_ok-pieces.ensures.texts)) fits (c.lines_take_the_width_of_their_picture.ensures style c.args.alignments.now least m) c.in_ok-least.ensures.drawn)
     c.write_drawing-2.ensures.written
+
+pub returns-in_err-cut-clause-unwritten : goal.returns-in_err-cut-clause-unwritten
+returns-in_err-cut-clause-unwritten g c = memory_fails _ _ _ c.from_residual-in_err-cut.result c.from_residual-in_err-cut.ensures.1
+
+pub returns-in_err-drawing-clause-unwritten : goal.returns-in_err-drawing-clause-unwritten
+returns-in_err-drawing-clause-unwritten g c = memory_fails _ _ _ c.from_residual-in_err-drawing.result c.from_residual-in_err-drawing.ensures.1
+
+pub returns-then-columns-width-2-clause-unwritten : goal.returns-then-columns-width-2-clause-unwritten
+returns-then-columns-width-2-clause-unwritten g c = only_fails _ _ _ _ c.write_drawing-then-columns-width-2.result c.write_drawing-then-columns-width-2.ensures.unwritten
+
+pub returns-clause-unwritten : goal.returns-clause-unwritten
+returns-clause-unwritten g c = only_fails _ _ _ _ c.write_drawing-2.result c.write_drawing-2.ensures.unwritten
