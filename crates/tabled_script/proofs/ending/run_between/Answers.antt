@@ -7,18 +7,18 @@ use Rattle.tabled_script.proofs.Outcomes.{of_end}
 use Rattle.tabled_script.specs.InMemory.{said_by}
 use Rattle.tabled_script.proofs.ending.run_between.Goals as goal
 
-pub returns-in-Ok-parse_between : goal.returns-in-Ok-parse_between
-returns-in-Ok-parse_between g c =
+pub returns-in-Ok : goal.returns-in-Ok
+returns-in-Ok g c =
     let rows = texts_in_records c.args.rows.items in
     let script = c.args.script.now in
-    let words : texts_in_records c.in-Ok.words.items ≡ cell_texts c.args.request.now.steps.items = c.in-Ok.ensures ∙ ap cell_texts c.deref-2.ensures.value in
-    of_end c.args.request.now.form (parse_between rows script (cell_texts c.args.request.now.steps.items)) (said_by c.in-Ok-parse_between.script) (g.W.Write.contents c.args.writer.now) (g.W.Write.contents c.run_parsed.new.writer) c.run_parsed.result
-    (ap (λ (lists : List (List (List ℕ))). parse_between rows script lists) (sym words) ∙ c.in-Ok-parse_between.ensures.script) c.run_parsed.ensures
+    let words : texts_in_records c.in_ok-words.words.items ≡ cell_texts c.args.request.now.steps.items = c.in_ok-words.ensures ∙ ap cell_texts c.deref-2.ensures.value in
+    of_end c.args.request.now.form (parse_between rows script (cell_texts c.args.request.now.steps.items)) (said_by c.in-Ok.script) (g.W.Write.contents c.args.writer.now) (g.W.Write.contents c.run_parsed.new.writer) c.run_parsed.result
+    (ap (λ (lists : List (List (List ℕ))). parse_between rows script lists) (sym words) ∙ c.in-Ok.ensures.script) c.run_parsed.ensures
 
 pub returns-in-Err-Faulty : goal.returns-in-Err-Faulty
 returns-in-Err-Faulty g c =
     let rows = texts_in_records c.args.rows.items in
     let script = c.args.script.now in
-    let words : texts_in_records c.in-Ok.words.items ≡ cell_texts c.args.request.now.steps.items = c.in-Ok.ensures ∙ ap cell_texts c.deref-2.ensures.value in
+    let words : texts_in_records c.in_ok-words.words.items ≡ cell_texts c.args.request.now.steps.items = c.in_ok-words.ensures ∙ ap cell_texts c.deref-2.ensures.value in
     let faulty = rw c.in-Err-Faulty.field-0-is at c.in-Err-Faulty.ensures.error in
     (ap (λ (lists : List (List (List ℕ))). parse_between rows script lists) (sym words) ∙ faulty ∙ sym (ap₂ (λ (line : ℕ) (fault : Fault). Err (line, fault)) c.in-Err-Faulty.line-is c.in-Err-Faulty.fault-is), refl)
