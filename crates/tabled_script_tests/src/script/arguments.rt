@@ -349,6 +349,25 @@ fn arguments_ask_for_steps_and_forms(rt: HostRuntime) -> Result<(), Fail> {
             "shape\t2\t1\nrow\th\nrow\ta\n",
             "tabled_script: step 2: no column is named 'a': the first row has 'h'\n",
         ),
+    ] {
+        let asked = match invocation(alloc, arguments, file) {
+            Ok(asked) => asked.request,
+            Err(_) => return Err(Fail::from("refused")),
+        };
+        let mut written = Vec::new(alloc);
+        let mut errors = Vec::new(alloc);
+        let got = answer(alloc, &asked, script.as_bytes(), &mut written, &mut errors);
+        assert_eq!(rt; got, status, "{arguments}");
+        assert_eq!(rt; written.as_slice(), output.as_bytes(), "{arguments}");
+        assert_eq!(rt; errors.as_slice(), told.as_bytes(), "{arguments}");
+    }
+    Ok(())
+}
+
+#[test]
+fn arguments_ask_for_quotes_and_alignments(rt: HostRuntime) -> Result<(), Fail> {
+    let alloc = rt.alloc();
+    for &(arguments, file, script, status, output, told) in &[
         // Quotes that are characters like others.
         (
             "--no-quotes|--separator|tab|--csv|f",
