@@ -8,8 +8,6 @@ mod fault;
 mod parts;
 mod reference;
 mod tag;
-#[cfg(test)]
-mod tests;
 mod text;
 
 pub use elements::{Attribute, Element, Group, Row, Table};

@@ -32,8 +32,6 @@ mod room;
 mod script_form;
 mod setting;
 mod telling;
-#[cfg(test)]
-mod tests;
 mod told_words;
 mod watched;
 mod words;

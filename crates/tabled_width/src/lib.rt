@@ -6,8 +6,6 @@ pub mod laws;
 mod pieces;
 mod plain;
 mod plain_wraps;
-#[cfg(test)]
-mod tests;
 mod widest;
 mod wrapping;
 

@@ -1,6 +1,7 @@
 //! Tests of pictures, by public calls alone.
 
 mod calls;
+mod columns;
 mod markdown;
 mod misfits;
 mod odd;

@@ -54,6 +54,7 @@ fn each_verb_is_read_and_each_fault_is_named(rt: HostRuntime) -> Result<(), Fail
         ("cspan\t--1\tall\n", 1, 3),
         ("header\ta\\q\n", 1, 4),
         ("vmerge\nrow\ta\n", 2, 6),
+        ("\n\n\n\n\n\n\n\n\n\n\nrow\t\\q\n", 12, 4),
     ] {
         assert!(rt; is_faulty(rt.alloc(), script, line, fault)?, "{script:?}");
     }

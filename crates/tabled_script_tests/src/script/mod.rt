@@ -8,4 +8,5 @@ mod help;
 mod json;
 mod refusals;
 mod sources;
+mod streams;
 mod widths;

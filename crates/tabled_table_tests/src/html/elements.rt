@@ -1,9 +1,7 @@
-//! Tests of reading.
+//! Tests of elements that are read from HTML.
 
-use crate::elements::{Element, Table};
-use crate::fault::ReadError;
-use crate::parts::read;
 use std::alloc::{AllocError, Global};
+use tabled_html_elements::{Element, ReadError, Table, read};
 
 /// Bytes of HTML, and after a line `=` what is read of them, with an empty line before the next case.
 const CASES: &str = "<table>

@@ -1,10 +1,8 @@
 //! Scripts run over readers and writers that give and take little, fail, or are interrupted.
 
-use crate::outcome::Unwritten;
-use crate::program::write_end;
-use crate::run_script;
+use std::alloc::Global;
 use std::io::{self, ErrorKind, Read, Write};
-use std::test::Fail;
+use tabled_script::run_script;
 
 /// Counts calls down, and fails at one of them.
 #[derive(Drop, Clone, Copy)]
@@ -69,9 +67,24 @@ impl Write for Sink {
     }
 }
 
+/// Says whether a script that is read in such calls has its table, or status 4 and no output where one fails.
+fn is_read_or_fails(alloc: Global, at_most: usize, calls: Calls, fails: bool) -> bool {
+    let mut reader = Source {
+        bytes: b"row\ta\nset\tall\tx\n",
+        at_most,
+        calls,
+    };
+    let mut written = Vec::new(alloc);
+    let status = run_script(alloc, &mut reader, &mut written);
+    if fails {
+        status == 4 && written.is_empty()
+    } else {
+        status == 0 && written.as_slice() == "shape\t1\t1\nrow\tx\n".as_bytes()
+    }
+}
+
 #[test]
-fn a_failed_read_is_a_status(rt: HostRuntime) -> Result<(), Fail> {
-    let script = b"row\ta\nset\tall\tx\n";
+fn a_failed_read_is_a_status(rt: HostRuntime) {
     // The call after the last byte tells the end.
     for &(at_most, calls) in &[(1, 17), (5, 5), (16, 2)] {
         for &kind in &[
@@ -80,66 +93,65 @@ fn a_failed_read_is_a_status(rt: HostRuntime) -> Result<(), Fail> {
             ErrorKind::Interrupted,
         ] {
             for before in 0..calls + 2 {
-                let mut reader = Source {
-                    bytes: script,
-                    at_most,
-                    calls: Calls { before, kind },
-                };
-                let mut written = Vec::new(rt.alloc());
-                let status = run_script(rt.alloc(), &mut reader, &mut written);
                 let fails = before < calls && kind != ErrorKind::Interrupted;
-                let (want, output) = if fails {
-                    (4, "")
-                } else {
-                    (0, "shape\t1\t1\nrow\tx\n")
-                };
-                assert_eq!(rt; status, want, "{at_most} bytes a read, {before} before");
-                assert_eq!(rt; written.as_slice(), output.as_bytes());
+                let counted = Calls { before, kind };
+                assert!(rt;
+                    is_read_or_fails(rt.alloc(), at_most, counted, fails),
+                    "{at_most} bytes a read, {before} before"
+                );
             }
         }
     }
-    Ok(())
+}
+
+/// Says whether a script whose output is taken in such calls has it flushed, with its status, or status 4 where one fails.
+fn is_flushed_or_fails(
+    alloc: Global,
+    script: &str,
+    at_most: usize,
+    calls: Calls,
+    want: Option<(u8, &str)>,
+) -> bool {
+    let mut reader = script.as_bytes();
+    let mut writer = Sink {
+        at_most,
+        calls,
+        held: Vec::new(alloc),
+        flushed: Vec::new(alloc),
+    };
+    let answered = run_script(alloc, &mut reader, &mut writer);
+    match want {
+        Some((status, output)) => {
+            answered == status && writer.flushed.as_slice() == output.as_bytes()
+        }
+        None => answered == 4,
+    }
 }
 
 #[test]
-fn what_is_written_is_flushed_or_failed(rt: HostRuntime) -> Result<(), Fail> {
-    let alloc = rt.alloc();
+fn what_is_written_is_flushed_or_failed(rt: HostRuntime) {
     for &(script, status, output) in &[
         ("row\ta\n", 0, "shape\t1\t1\nrow\ta\n"),
         ("spin\n", 2, "line 1: fault 1\n"),
-        ("", 3, "out of memory\n"),
     ] {
         for at_most in [1, 5, 64] {
             // n writes, and to flush.
             let calls = output.len().div_ceil(at_most) + 1;
             for kind in [ErrorKind::BrokenPipe, ErrorKind::Interrupted] {
                 for before in 0..calls + 2 {
-                    let mut writer = Sink {
-                        at_most,
-                        calls: Calls { before, kind },
-                        held: Vec::new(alloc),
-                        flushed: Vec::new(alloc),
-                    };
-                    let answered = if status == 3 {
-                        write_end(alloc, Err(Unwritten::OutOfMemory), &mut writer)
-                    } else {
-                        let mut reader = script.as_bytes();
-                        run_script(alloc, &mut reader, &mut writer)
-                    };
                     let is_written = kind == ErrorKind::Interrupted && before + 1 < calls;
-                    if is_written || before >= calls {
-                        assert_eq!(rt;
-                            answered,
-                            status,
-                            "{at_most} bytes a write, {before} before"
-                        );
-                        assert_eq!(rt; writer.flushed.as_slice(), output.as_bytes());
+                    let want = if is_written || before >= calls {
+                        Some((status, output))
                     } else {
-                        assert_eq!(rt; answered, 4, "{at_most} bytes a write, {before} before");
-                    }
+                        None
+                    };
+                    let counted = Calls { before, kind };
+                    assert!(rt;
+                        is_flushed_or_fails(rt.alloc(), script, at_most, counted, want),
+                        "{at_most} bytes a write, {before} before"
+                    );
                 }
             }
         }
     }
-    Ok(())
 }

@@ -1,6 +1,6 @@
 //! Tests of pieces, on texts of many writings, and of what is made of them.
 
-use crate::{Pieces, columns_of, lines_fit, widest_piece, widest_word, wrap};
+use tabled_width::{Pieces, columns_of, lines_fit, widest_piece, widest_word, wrap};
 
 /// Says whether a text falls into these pieces, which bars separate.
 fn falls_into(text: &str, pieces: &str) -> bool {
