@@ -193,7 +193,7 @@ WORDS OF OTHER TOOLS
   flip                          reverse
   cut, select, head, tail, filter keep
   order                         sort
-  replace, rename, fill         set
+  rename, fill                  set
   title                         header
   uniq, join                    is not of this layer: it is done before, to the records
   group, count, sum             the same
@@ -561,7 +561,7 @@ pub const ENTRIES: [Entry; 52] = [
 ];
 
 /// Words of other tools, and what is written in their place.
-pub const WAYS: [Way; 21] = [
+pub const WAYS: [Way; 20] = [
     Way {
         word: "transpose",
         way: "rotate left, then rotate top",
@@ -609,10 +609,6 @@ pub const WAYS: [Way; 21] = [
     Way {
         word: "order",
         way: "sort",
-    },
-    Way {
-        word: "replace",
-        way: "set",
     },
     Way {
         word: "rename",
