@@ -37,7 +37,7 @@ value-append (x ∷ xs) ys =
 pub digit-is : (d : ℕ) → IsTrue (is_ascii_digit d) → (digit_value d ≡ d - 48) × (48 ≤ d) × (d < 58)
 digit-is d h = grind (arith, nat_tests)
 
-digits-cons : (d : ℕ) (ds : List ℕ) → IsTrue (list_all is_ascii_digit (d ∷ ds)) → IsTrue (is_ascii_digit d) × IsTrue (list_all is_ascii_digit ds)
+pub digits-cons : (d : ℕ) (ds : List ℕ) → IsTrue (list_all is_ascii_digit (d ∷ ds)) → IsTrue (is_ascii_digit d) × IsTrue (list_all is_ascii_digit ds)
 digits-cons d ds h = search rules
 
 all-digits : (ds : List ℕ) → IsTrue (list_all is_ascii_digit ds) → AllDigits 10 ds

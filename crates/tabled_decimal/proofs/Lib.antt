@@ -1,1 +1,2 @@
 pub mod DigitValues
+pub mod MillionthsOfDigits

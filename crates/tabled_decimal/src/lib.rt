@@ -4,6 +4,7 @@
 mod decimal;
 mod digits;
 pub mod laws;
+mod millionths;
 mod order;
 mod parse;
 #[cfg(test)]
