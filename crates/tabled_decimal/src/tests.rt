@@ -48,6 +48,29 @@ fn numbers_are_compared_exactly(rt: HostRuntime) {
     }
 }
 
+/// Whether the number of a text is so many millionths.
+fn has_millionths(text: &str, wanted: Option<i64>) -> bool {
+    match Decimal::parse(text) {
+        Some(number) => number.millionths() == wanted,
+        None => false,
+    }
+}
+
+#[test]
+fn numbers_are_so_many_millionths(rt: HostRuntime) {
+    for &(text, millionths) in &[
+        ("1.5", Some(1_500_000)),
+        ("-.000001", Some(-1)),
+        ("-0", Some(0)),
+        ("0000000000007.", Some(7_000_000)),
+        ("-999999999999.999999", Some(-999_999_999_999_999_999)),
+        ("1000000000000", None),
+        ("0.0000000", None),
+    ] {
+        assert!(rt; has_millionths(text, millionths), "{text}");
+    }
+}
+
 #[test]
 fn other_texts_are_no_numbers(rt: HostRuntime) {
     for &text in &[

@@ -20,6 +20,7 @@ pub mod Parted
 pub mod PiecePlaces
 pub mod PieceReads
 pub mod PiecesDone
+mod RankOrder
 pub mod RearrangedFits
 pub mod RemovedSpans
 pub mod Replacing

@@ -12,6 +12,7 @@ pub mod Orders
 pub mod PiecePlaces
 pub mod PieceTexts
 pub mod Pieces
+pub mod Ranks
 pub mod Rearranged
 pub mod Replaced
 pub mod Rewrites

@@ -1,6 +1,7 @@
-//! Decimal numbers, compared.
+//! Decimal numbers, compared and as integers.
 
-ghost use Rattle.std.specs.Prelude.{◌≡◌, Some};
+ghost use Rattle.std.specs.Prelude.{◌≡◌, IfSome, Some};
+ghost use Rattle.tabled_decimal.specs.Millionths.{AreMillionths};
 ghost use Rattle.tabled_decimal.specs.Numbers.{Number, decimal, number_cmp};
 
 use std::cmp::Ordering;
@@ -14,4 +15,11 @@ pub fn compared(a: &str, b: &str) -> Option<Ordering>
         (Some(a), Some(b)) => Some(a.cmp(&b)),
         _ => None,
     }
+}
+
+/// How many millionths the number of a text is, if it writes one that isn't too long.
+pub fn in_millionths(text: &str) -> Option<i64>
+    ensures { (a : Number) → decimal text.now ≡ Some a → IfSome result (AreMillionths a) }
+{
+    Decimal::parse(text).and_then(|number| number.millionths())
 }

@@ -10,6 +10,7 @@ ghost use Rattle.tabled_settings.specs.Keys.{lent_text, number_of_key};
 ghost use Rattle.tabled_settings.specs.Sorted.{directed, numbers_first, text_order};
 ghost use Rattle.tabled_settings.specs.declared.sort.SortKeys.TheVariants.{Numbers, Texts};
 
+use crate::sort::ranks::{cmp_ranks, ranks_of};
 use std::alloc::{AllocError, Global};
 use std::cmp::Ordering;
 use tabled_decimal::Decimal;
@@ -53,7 +54,7 @@ fn text_at<'a>(texts: &[&'a str], index: usize) -> &'a str
     }
 }
 
-/// Puts indexes in order by the numbers that the texts at them write.
+/// Puts indexes in order by the numbers that the texts at them write: by their ranks, unless one has too many digits.
 pub(super) fn sort_by_numbers(
     alloc: Global,
     indexes: &mut [usize],
@@ -62,6 +63,11 @@ pub(super) fn sort_by_numbers(
 ) -> Result<(), AllocError>
     ensures { OnOk result (indexes.new ≡ in_order (comes_before (λ i j. text_order Numbers descending (lent_text texts.now i) (lent_text texts.now j))) indexes.old) }
 {
+    if let Some(ranks) = ranks_of(alloc, texts, descending)? {
+        let ranks = ranks.as_slice();
+        indexes.sort_unstable_by(|a, b| cmp_ranks(ranks, *a, *b));
+        return Ok(());
+    }
     let numbers = numbers_of(alloc, texts)?;
     let numbers = numbers.as_slice();
     indexes.sort_unstable_by(|a, b| cmp_numbers(numbers, descending, *a, *b));

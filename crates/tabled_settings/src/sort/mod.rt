@@ -6,6 +6,7 @@ ghost use Rattle.tabled_settings.specs.declared.sort.SortColumn.TheVariants as c
 ghost use Rattle.tabled_settings.specs.declared.sort.SortKeys.TheVariants as keys;
 
 mod by_key;
+mod ranks;
 mod rows;
 
 use crate::arranged::arrange;

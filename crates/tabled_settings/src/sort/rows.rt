@@ -17,7 +17,7 @@ use tabled_grid::config::Position;
 use tabled_grid::records::{CellText, ExactRecords, PeekableRecords, Records};
 
 /// The rows of a table, of which those from one on are in the order of a column. Takes a number and a place for a text for
-/// each row, and as numbers the place of one more.
+/// each row, and as numbers a rank, or the places of a decimal number.
 pub(super) fn sorted_rows<R>(
     alloc: Global,
     records: &R,

@@ -53,6 +53,23 @@ fn rows_are_sorted_as_numbers(rt: HostRuntime) {
 }
 
 #[test]
+fn long_numbers_are_sorted_exactly(rt: HostRuntime) {
+    let old = "n / 1000000000000.1 / x / 1000000000000 / 0 / -.0000001 / -.0000002 /";
+    for (sort, new) in [
+        (
+            Sort::rows(1).numbers(),
+            "n / -.0000002 / -.0000001 / 0 / 1000000000000 / 1000000000000.1 / x /",
+        ),
+        (
+            Sort::rows(1).numbers().descending(),
+            "n / 1000000000000.1 / 1000000000000 / 0 / -.0000001 / -.0000002 / x /",
+        ),
+    ] {
+        assert!(rt; makes_flat(rt.alloc(), old, sort, new));
+    }
+}
+
+#[test]
 fn equal_rows_keep_their_order(rt: HostRuntime) {
     let alloc = rt.alloc();
     let old = "b 1 / a 2 / b 3 / a 4 / b 5 /";
