@@ -4,6 +4,7 @@
    NUMBER  which of them, from 1
    ERROR   the errno of the failed read or write
    INTERRUPTED which read is interrupted, besides, from 1
+   REFUSED which allocation fails, besides, from 1
    AT_MOST how many bytes a read or a write moves
 
    At the end "ALLOCATIONS READS WRITES HELD" goes to the descriptor 9: how often each was called, and how many
@@ -24,7 +25,7 @@ enum { ALLOCATION, READ, WRITE, KINDS };
 static const char *const names[KINDS] = {"allocation", "read", "write"};
 static long calls[KINDS], named[KINDS], held;
 static size_t at_most = -1;
-static long interrupted;
+static long interrupted, refused;
 static int error, counts;
 
 static long number_in(const char *name, long otherwise) {
@@ -38,6 +39,7 @@ __attribute__((constructor)) static void begin(void) {
         if (kind && !strcmp(kind, names[i])) named[i] = number_in("NUMBER", 0);
     error = number_in("ERROR", EIO);
     interrupted = number_in("INTERRUPTED", 0);
+    refused = number_in("REFUSED", 0);
     at_most = number_in("AT_MOST", -1);
     counts = 1;
 }
@@ -47,7 +49,11 @@ __attribute__((destructor)) static void end(void) {
     dprintf(9, "%ld %ld %ld %ld\n", calls[ALLOCATION], calls[READ], calls[WRITE], held);
 }
 
-static int fails(int kind) { return counts && ++calls[kind] == named[kind]; }
+static int fails(int kind) {
+    if (!counts) return 0;
+    calls[kind]++;
+    return calls[kind] == named[kind] || (kind == ALLOCATION && calls[kind] == refused);
+}
 
 void *malloc(size_t size) {
     if (fails(ALLOCATION)) return NULL;
