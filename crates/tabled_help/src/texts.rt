@@ -195,8 +195,7 @@ WORDS OF OTHER TOOLS
   order                         sort
   rename, fill                  set
   title                         header
-  uniq, join                    is not of this layer: it is done before, to the records
-  group, count, sum             the same
+  uniq, join, group, count, sum not of this layer: that is done before, to the records
 
 ALL WORDS
 
@@ -624,23 +623,23 @@ pub const WAYS: [Way; 20] = [
     },
     Way {
         word: "uniq",
-        way: "is not of this layer: it is done before, to the records",
+        way: "not of this layer: that is done before, to the records",
     },
     Way {
         word: "join",
-        way: "is not of this layer: it is done before, to the records",
+        way: "not of this layer: that is done before, to the records",
     },
     Way {
         word: "group",
-        way: "the same",
+        way: "not of this layer: that is done before, to the records",
     },
     Way {
         word: "count",
-        way: "the same",
+        way: "not of this layer: that is done before, to the records",
     },
     Way {
         word: "sum",
-        way: "the same",
+        way: "not of this layer: that is done before, to the records",
     },
 ];
 

@@ -1,5 +1,4 @@
 pub mod Again
-pub mod AlignedBy
 pub mod Changes
 pub mod Common
 pub mod EachOf
@@ -10,6 +9,7 @@ pub mod Outcomes
 pub mod OutputLines
 pub mod Ranges
 pub mod Rooms
+pub mod RowsAlone
 pub mod Tables
 pub mod Taken
 pub mod Texts

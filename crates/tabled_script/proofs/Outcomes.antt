@@ -2,11 +2,12 @@
 use Rattle.std.specs.Io.KnownBytes.{Appends}
 use Rattle.std.specs.Prelude.{Bool, String, false, true}
 use Rattle.tabled_language.proofs.EndedLines.{parse_between-alone}
-use Rattle.tabled_language.specs.Lent.{texts_in_records}
+use Rattle.std.specs.Borrow.{Bor}
+use Rattle.tabled_csv.specs.Texts.{rows_of}
 use Rattle.tabled_language.specs.Parsing.{cell_texts}
 use Rattle.tabled_language.specs.Script.{parse, parse_between}
 use Rattle.tabled_language.specs.declared.fault.Fault.{Fault}
-use Rattle.tabled_script.proofs.Common.{[], ◌∙◌, ◌≡◌, ◌⊎◌, Err, Global, LentText, List, Ok, Option, Result, Script, Vec, arith, ended, inl, inr, refl, subst, sym, ℕ}
+use Rattle.tabled_script.proofs.Common.{[], ◌∙◌, ◌≡◌, ◌⊎◌, Err, Global, List, Ok, Option, Result, Script, Vec, arith, ended, inl, inr, refl, subst, sym, ℕ}
 use Rattle.tabled_script.specs.Answer.{IsUnwritable, ShowsState, fault_line, memory_line}
 use Rattle.tabled_script.specs.Outcome.{Comes, ComesOfState, Ends, GivesNoTable, ShowsNoTable, ShowsTable, status_with_notes}
 use Rattle.tabled_script.specs.Status.{IsAnswer, IsDone, IsStatus, done, faulty, out_of_memory}
@@ -120,7 +121,7 @@ module _ (old mid new : Option (List ℕ)) (status : ℕ) where
 -- ---- of bytes alone
 
 -- what is read of bytes between no rows and no steps
-pub read-alone : (rows : List (Vec LentText)) (steps : List (Vec (String Global))) (bytes input : List ℕ) → rows ≡ [] → steps ≡ [] → bytes ≡ input → parse_between (texts_in_records rows) bytes (cell_texts steps) ≡ parse input
+pub read-alone : (rows : List (Vec (Bor (List ℕ)))) (steps : List (Vec (String Global))) (bytes input : List ℕ) → rows ≡ [] → steps ≡ [] → bytes ≡ input → parse_between (rows_of rows) bytes (cell_texts steps) ≡ parse input
 read-alone rows steps bytes input no_rows no_steps is = rw (no_rows, no_steps, is) (parse_between-alone input)
 
 module _ {U : Type 0} (how : Form) (read : Result Script (ℕ × Fault)) (input : List ℕ) (old mid new : Option (List ℕ)) (status : ℕ) (outcome : Result U Unwritten) (is : read ≡ parse input) (comes : Comes how read old mid outcome) (ends : Ends outcome status mid new) where

@@ -11,17 +11,21 @@ use Rattle.tabled_language.specs.declared.lent.LentText.{LentText}
 use Rattle.tabled_language.specs.declared.script.Script.{Script as Scripted}
 use Rattle.tabled_steps.specs.States.{State, state_of}
 
--- the texts of records
-abbrev pub texts_in : List (Vec LentText) → Grid (List ℕ)
-texts_in records = map_grid bytes_of (grid_of (map_items records))
+-- the texts of records, by what the text of a cell is
+abbrev pub texts_by : {A : Type 0} → (A → List ℕ) → List (Vec A) → Grid (List ℕ)
+texts_by text records = map_grid text (grid_of (map_items records))
 
 -- the table of the bytes of texts, row by row
 abbrev pub grid_of_texts : List (List (String Global)) → Grid (List ℕ)
 grid_of_texts rows = map_grid string_bytes (grid_of rows)
 
--- the state of records and merged cells
+-- the state of records and merged cells, by what the text of a cell is
+abbrev pub state_by : {A : Type 0} → (A → List ℕ) → List (Vec A) → SpanMap → State
+state_by text records spans = state_of text (grid_of (map_items records)) spans
+
+-- the state of a script's records and merged cells
 abbrev pub state_in : List (Vec LentText) → SpanMap → State
-state_in records spans = state_of bytes_of (grid_of (map_items records)) spans
+state_in = state_by bytes_of
 
 -- what a script says
 abbrev pub said_by : Scripted → Script

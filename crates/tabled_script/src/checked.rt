@@ -121,6 +121,7 @@ fn doubt_of(
         Step::Wrap(wrap, _) if *wrap == Width::wrap(0).keep_words(true) => {
             Ok(Some(Doubt::LeavesNoText))
         }
+        Step::Truncate(truncate, _) if truncate.width == 0 => Ok(Some(Doubt::LeavesNoText)),
         _ => Ok(None),
     }
 }

@@ -5,10 +5,9 @@ ghost use Rattle.std.specs.String.{string_bytes};
 ghost use Rattle.tabled_draw.specs.Each.{each};
 ghost use Rattle.tabled_script.specs.InMemory.{grid_of_texts};
 ghost use Rattle.tabled_grid.specs.Entity.{place};
-ghost use Rattle.tabled_grid.specs.Evenness.{AreWide};
 ghost use Rattle.tabled_grid.specs.Grid.{IsEven, IsInside, grid_of, map_grid, map_items};
 ghost use Rattle.tabled_script.specs.Narrow.{wrapped_at, wrapped_by};
-ghost use Rattle.tabled_script.specs.Cuts.{HasColumns, room_of, wrapped_row, wrapped_rows};
+ghost use Rattle.tabled_script.specs.Cuts.{HasColumns, room_of, wrapped_row};
 
 use std::alloc::{AllocError, Global};
 use tabled_draw::{Lines, room};
@@ -35,7 +34,7 @@ pub(crate) struct Columns<'a> {
     pub(crate) spans: &'a SpannedConfig,
 }
 
-/// The texts of a table (`r x c`), each wrapped between words to the columns that it may have: a piece of more columns
+/// The texts of a table, each wrapped between words to the columns that it may have: a piece of more columns
 /// stays whole.
 pub(crate) fn wrapped_texts<R>(
     alloc: Global,
@@ -49,24 +48,6 @@ where
     requires columns { HasColumns cut.now (R.grid records.now).rows (R.grid records.now).columns }
     ensures texts { IfOk result (λ texts. grid_of_texts (map_items texts.items) ≡ wrapped_by (room_of cut.now) (map_grid R.Cell.text_of (R.grid records.now))) }
     ensures even { IfOk result (λ texts. IsEven (grid_of (map_items texts.items))) }
-{
-    let rows = wrapped_rows(alloc, records, cut)?;
-    Ok(rows)
-}
-
-/// The texts of all rows.
-fn wrapped_rows<R>(
-    alloc: Global,
-    records: &R,
-    cut: &Cut<'_>,
-) -> Result<Vec<Vec<String>>, AllocError>
-where
-    R: Records + ExactRecords + PeekableRecords,
-    R::Cell: CellText,
-    requires well { R.is_well_formed records.now }
-    requires columns { HasColumns cut.now (R.grid records.now).rows (R.grid records.now).columns }
-    ensures wide { IfOk result (λ texts. AreWide (R.grid records.now).columns (map_items texts.items)) }
-    ensures texts { IfOk result (λ texts. map (map string_bytes) (map_items texts.items) ≡ wrapped_rows (room_of cut.now) (map_grid R.Cell.text_of (R.grid records.now))) }
 {
     let mut texts = Vec::new(alloc);
     for i in 0..records.count_rows() {

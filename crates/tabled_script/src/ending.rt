@@ -1,17 +1,19 @@
 //! The table that a script ends with, written.
 
-ghost use Rattle.std.specs.Prelude.{◌≡◌, IfOk};
+ghost use Rattle.std.specs.Prelude.{◌≡◌, IfOk, IsTrue};
+ghost use Rattle.tabled_csv.specs.Texts.{rows_of, text_of};
 ghost use Rattle.tabled_grid.specs.Grid.{IsEven, grid_of, map_items};
-ghost use Rattle.tabled_language.specs.Lent.{texts_in_records};
+ghost use Rattle.tabled_grid.specs.Spans.{empty};
 ghost use Rattle.tabled_language.specs.Parsing.{cell_texts};
 ghost use Rattle.tabled_language.specs.Script.{parse_between};
 ghost use Rattle.tabled_script.specs.Answer.{ended};
-ghost use Rattle.tabled_script.specs.InMemory.{said_by, state_in};
+ghost use Rattle.tabled_script.specs.InMemory.{said_by, state_by, state_in};
 ghost use Rattle.tabled_script.specs.Outcome.{Comes, ComesOfState};
 
 use crate::checked::run_checked;
 use crate::form::Form;
 use crate::inputs::lent_words;
+use crate::lending::lent_rows;
 use crate::names::unknown_alignments_line;
 use crate::notes::Notes;
 use crate::outcome::{Outcome, Unwritten};
@@ -20,6 +22,7 @@ use crate::telling::Lines;
 use std::alloc::{AllocError, Global};
 use std::io::Write;
 use tabled_grid::config::SpannedConfig;
+use tabled_grid::records::CellText;
 use tabled_language::{LentText, ParseError, Script, padded, parse_between};
 use tabled_steps::run;
 
@@ -28,24 +31,62 @@ use tabled_steps::run;
 pub(crate) fn run_between<W: Write, E: Write>(
     alloc: Global,
     request: &Request,
-    rows: Vec<Vec<LentText>>,
+    rows: Vec<Vec<&str>>,
     script: &[u8],
     writer: &mut W,
     notes: &mut Notes<'_, E>,
 ) -> Outcome
-    ensures { Comes request.now.form (parse_between (texts_in_records rows.entry.items) script.now (cell_texts request.now.steps.items)) (W.contents writer.old) (W.contents writer.new) result }
+    ensures { Comes request.now.form (parse_between (rows_of rows.entry.items) script.now (cell_texts request.now.steps.items)) (W.contents writer.old) (W.contents writer.new) result }
 {
+    if script.is_empty() && request.steps.is_empty() && are_even(&rows) {
+        return write_rows(alloc, request, rows, writer, notes);
+    }
     let lines = Lines {
         rows: rows.len(),
         script,
         steps: &request.steps,
     };
+    let records = lent_rows(alloc, rows)?;
     let words = lent_words(alloc, &request.steps)?;
-    match parse_between(alloc, rows, script, words) {
+    match parse_between(alloc, records, script, words) {
         Ok(script) => run_parsed(alloc, request, lines, script, writer, notes),
         Err(ParseError::Faulty { line, fault }) => Err(Unwritten::Faulty(line, fault)),
         Err(ParseError::OutOfMemory) => Err(Unwritten::OutOfMemory),
     }
+}
+
+/// Says that rows are equally long.
+fn are_even(rows: &[Vec<&str>]) -> bool
+    ensures { IsTrue result → IsEven (grid_of (map_items rows.now)) }
+{
+    let Some(first) = rows.first() else {
+        return true;
+    };
+    let width = first.len();
+    for row in rows {
+        if row.len() != width {
+            return false;
+        }
+    }
+    true
+}
+
+/// Writes the table of rows as they are, without merged cells.
+fn write_rows<W: Write, E: Write>(
+    alloc: Global,
+    request: &Request,
+    rows: Vec<Vec<&str>>,
+    writer: &mut W,
+    notes: &mut Notes<'_, E>,
+) -> Outcome
+    requires { IsEven (grid_of (map_items rows.items)) }
+    ensures { ComesOfState request.now.form (state_by text_of rows.entry.items empty) (W.contents writer.old) (W.contents writer.new) result }
+{
+    tell_unaligned(alloc, &request.form, &rows, notes);
+    // A text that is lent takes less room than a cell that steps may write to.
+    request
+        .form
+        .write(alloc, rows, &SpannedConfig::new(alloc), writer)
 }
 
 /// Writes the table of a script's records and merged cells after its steps.
@@ -65,10 +106,10 @@ fn run_parsed<W: Write, E: Write>(
 }
 
 /// Tells the names that columns are aligned by, but that none of them has.
-fn tell_unaligned<E: Write>(
+fn tell_unaligned<T: CellText, E: Write>(
     alloc: Global,
     form: &Form,
-    records: &[Vec<LentText>],
+    records: &[Vec<T>],
     notes: &mut Notes<'_, E>,
 ) {
     if let Some(alignments) = form.alignments() {

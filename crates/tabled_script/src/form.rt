@@ -1,7 +1,7 @@
 //! What the table that a script ends with is written as.
 
 ghost use Rattle.tabled_grid.specs.Grid.{IsEven, grid_of, map_items};
-ghost use Rattle.tabled_script.specs.InMemory.{state_in};
+ghost use Rattle.tabled_script.specs.InMemory.{state_by};
 ghost use Rattle.tabled_script.specs.Outcome.{ComesOfState};
 
 use crate::alignments::Alignments;
@@ -11,13 +11,13 @@ use crate::json_form::write_json;
 use crate::outcome::Outcome;
 use crate::picture::{write_markdown, write_narrow_picture, write_picture};
 use crate::script_form::write_script;
+use crate::words::KnownWord;
 use std::alloc::Global;
 use std::io::Write;
 use tabled_csv::Separator;
 use tabled_draw::Style;
 use tabled_grid::config::SpannedConfig;
 use tabled_json::{Layout, Values};
-use tabled_language::LentText;
 
 /// What a table is written as.
 ///
@@ -55,15 +55,15 @@ impl Form {
 
     /// Writes a table, and flushes the writer. All memory is asked for before the first byte: refused, nothing
     /// is written. Where no picture is as narrow as is asked for, or two keys are equal, nothing is written, too.
-    pub(crate) fn write<W: Write>(
+    pub(crate) fn write<T: KnownWord, W: Write>(
         &self,
         alloc: Global,
-        records: Vec<Vec<LentText>>,
+        records: Vec<Vec<T>>,
         spans: &SpannedConfig,
         writer: &mut W,
     ) -> Outcome
         requires { IsEven (grid_of (map_items records.items)) }
-        ensures { ComesOfState self.now (state_in records.entry.items spans.now) (W.contents writer.old) (W.contents writer.new) result }
+        ensures { ComesOfState self.now (state_by T.text_of records.items spans.now) (W.contents writer.old) (W.contents writer.new) result }
     {
         match self {
             Form::Script => write_script(alloc, &records, spans, writer),

@@ -70,11 +70,14 @@ fn without_columns(arguments: &[String]) -> &[String] {
     }
 }
 
-/// What is said of a word.
+/// What is said of a word: its own lines, or those of the verbs behind which it stands.
 fn help_of(alloc: Global, word: &str) -> Result<Telling, AllocError> {
     let said = said_of(alloc, word, &ENTRIES)?;
     if !said.is_empty() {
         return Ok(Telling::Text(said));
+    }
+    if WORDS.contains(&word) {
+        return Ok(Telling::Text(said_behind_verbs(alloc, word)?));
     }
     let why = match nearest(word, &WORDS) {
         Some(meant) => format!(in alloc;
@@ -85,6 +88,21 @@ fn help_of(alloc: Global, word: &str) -> Result<Telling, AllocError> {
         )?,
     };
     Ok(Telling::Nothing(why))
+}
+
+/// The lines in which a word stands among others.
+fn said_behind_verbs(alloc: Global, word: &str) -> Result<String, AllocError> {
+    let mut said = String::new(alloc);
+    for entry in &ENTRIES {
+        if entry
+            .text
+            .split(|c: char| c != '-' && !c.is_ascii_lowercase())
+            .any(|it| it == word)
+        {
+            said.push_str(entry.text)?;
+        }
+    }
+    Ok(said)
 }
 
 /// What is said of the fault of a number.

@@ -5,7 +5,7 @@ ghost use Rattle.std.specs.Prelude.{◌≡◌, IfErr, IfOk, OnOk, map};
 ghost use Rattle.tabled_grid.specs.Grid.{IsEven, grid_of, map_items};
 ghost use Rattle.tabled_html.specs.Elements.{html};
 ghost use Rattle.tabled_script.specs.Html.{ShowsGrid, html_alignment, look_of, look_with};
-ghost use Rattle.tabled_script.specs.InMemory.{texts_in};
+ghost use Rattle.tabled_script.specs.InMemory.{texts_by};
 ghost use Rattle.tabled_script.specs.Outcome.{OnlyFails};
 
 use crate::alignments::Alignments;
@@ -14,8 +14,8 @@ use std::alloc::{AllocError, Global};
 use std::io::Write;
 use tabled_draw::Alignment;
 use tabled_grid::config::SpannedConfig;
+use tabled_grid::records::CellText;
 use tabled_html::{Page, WriteError, write_with};
-use tabled_language::LentText;
 
 /// How a table is written as HTML.
 ///
@@ -33,17 +33,17 @@ pub struct HtmlPage {
 
 /// Writes a table as HTML with those of its merged cells that fit and that HTML can say, and flushes the writer. All
 /// memory is asked for before the first byte: refused, nothing is written.
-pub(crate) fn write_html<W: Write>(
+pub(crate) fn write_html<T: CellText, W: Write>(
     alloc: Global,
-    records: &Vec<Vec<LentText>>,
+    records: &Vec<Vec<T>>,
     spans: &SpannedConfig,
     page: &HtmlPage,
     writer: &mut W,
 ) -> Outcome
     requires { IsEven (grid_of (map_items records.now.items)) }
     ensures written { OnOk result (
-        Appends (W.contents writer.old) (W.contents writer.new) (html (texts_in records.now.items) spans.now (look_of page.now (texts_in records.now.items)))) }
-    ensures shows { OnOk result (ShowsGrid page.now (texts_in records.now.items) spans.now) }
+        Appends (W.contents writer.old) (W.contents writer.new) (html (texts_by T.text_of records.now.items) spans.now (look_of page.now (texts_by T.text_of records.now.items)))) }
+    ensures shows { OnOk result (ShowsGrid page.now (texts_by T.text_of records.now.items) spans.now) }
     ensures unwritten { IfErr result (OnlyFails (W.contents writer.old) (W.contents writer.new)) }
 {
     let alignments = page.alignments.of_columns(alloc, records)?;

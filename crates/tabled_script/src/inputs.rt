@@ -4,7 +4,8 @@ ghost use Rattle.std.specs.Cmp.Lexicographic.{pointwise};
 ghost use Rattle.std.specs.Prelude.{◌≡◌, IfOk, MatchResult, Some, map};
 ghost use Rattle.std.specs.Str.{bytes_eq};
 ghost use Rattle.std.specs.String.{string_bytes};
-ghost use Rattle.tabled_language.specs.Lent.{bytes_of, texts_in_records, texts_in_row};
+ghost use Rattle.tabled_csv.specs.Texts.{rows_of, text_of};
+ghost use Rattle.tabled_language.specs.Lent.{texts_in_records, texts_in_row};
 ghost use Rattle.tabled_language.specs.Parsing.{cell_texts};
 ghost use Rattle.tabled_script.specs.Inputs.{HasRows, HasTable, NoRowsIn, NoTable, NotBehind, behind};
 ghost use Rattle.tabled_script.specs.Outcome.{status_of_error};
@@ -15,7 +16,6 @@ use crate::outcome::{FAULTY, OUT_OF_MEMORY};
 use crate::request::{Format, Source};
 use crate::room::{Rooms, Spares};
 use std::alloc::{AllocError, Global};
-use tabled_grid::records::CellText;
 use tabled_language::LentText;
 
 /// What is wrong with a file of rows.
@@ -42,8 +42,8 @@ pub(crate) enum RowsError {
 pub(crate) enum JoinError<'a> {
     /// Their first row isn't the head, which is the first row of those before, and of the file of an index.
     Differs {
-        head: Vec<LentText<'a>>,
-        first: Vec<LentText<'a>>,
+        head: Vec<&'a str>,
+        first: Vec<&'a str>,
         of: usize,
     },
     OutOfMemory,
@@ -76,8 +76,8 @@ pub(crate) fn rows_of_sources<'a>(
     alloc: Global,
     sources: &'a [Source],
     rooms: &'a mut Rooms,
-) -> Result<Vec<Vec<LentText<'a>>>, SourcesError<'a>>
-    ensures { MatchResult result (λ rows. HasTable sources.now (texts_in_records rows.items)) (NoTable sources.now) }
+) -> Result<Vec<Vec<&'a str>>, SourcesError<'a>>
+    ensures { MatchResult result (λ rows. HasTable sources.now (rows_of rows.items)) (NoTable sources.now) }
 {
     let mut spares = rooms.spares();
     let mut rows = Vec::new(alloc);
@@ -99,7 +99,7 @@ pub(crate) fn rows_of_sources<'a>(
 }
 
 /// The file whose first row is that of rows, or that of an index, where there are none yet.
-fn first_of(rows: &[Vec<LentText>], index: usize, of: usize) -> usize {
+fn first_of(rows: &[Vec<&str>], index: usize, of: usize) -> usize {
     if rows.is_empty() { index } else { of }
 }
 
@@ -108,8 +108,8 @@ fn rows_of<'a>(
     alloc: Global,
     source: &'a Source,
     spares: &mut Spares<'a>,
-) -> Result<Vec<Vec<LentText<'a>>>, RowsError>
-    ensures { MatchResult result (λ rows. HasRows source.now (texts_in_records rows.items)) (NoRowsIn source.now.format source.now.bytes.items) }
+) -> Result<Vec<Vec<&'a str>>, RowsError>
+    ensures { MatchResult result (λ rows. HasRows source.now (rows_of rows.items)) (NoRowsIn source.now.format source.now.bytes.items) }
 {
     match source.format {
         Format::Csv(dialect) => csv_rows(alloc, dialect, &source.bytes, &mut spares.csv),
@@ -119,11 +119,11 @@ fn rows_of<'a>(
 
 /// Rows and others behind them, without the first one of these, if it is that of the rows, and of the file of an index.
 fn joined<'a>(
-    rows: Vec<Vec<LentText<'a>>>,
-    others: Vec<Vec<LentText<'a>>>,
+    rows: Vec<Vec<&'a str>>,
+    others: Vec<Vec<&'a str>>,
     of: usize,
-) -> Result<Vec<Vec<LentText<'a>>>, JoinError<'a>>
-    ensures { MatchResult result (λ all. behind (texts_in_records rows.entry.items) (texts_in_records others.entry.items) ≡ Some (texts_in_records all.items)) (NotBehind (texts_in_records rows.entry.items) (texts_in_records others.entry.items)) }
+) -> Result<Vec<Vec<&'a str>>, JoinError<'a>>
+    ensures { MatchResult result (λ all. behind (rows_of rows.entry.items) (rows_of others.entry.items) ≡ Some (rows_of all.items)) (NotBehind (rows_of rows.entry.items) (rows_of others.entry.items)) }
 {
     if rows.is_empty() {
         return Ok(others);
@@ -146,14 +146,14 @@ fn joined<'a>(
 }
 
 /// Says whether two rows have the same texts.
-fn is_same_row(row: &[LentText], other: &[LentText]) -> bool
-    ensures { result ≡ pointwise bytes_eq (map bytes_of row.now) (map bytes_of other.now) }
+fn is_same_row(row: &[&str], other: &[&str]) -> bool
+    ensures { result ≡ pointwise bytes_eq (map text_of row.now) (map text_of other.now) }
 {
     if row.len() != other.len() {
         return false;
     }
     for i in 0..row.len() {
-        if row[i].text() != other[i].text() {
+        if row[i] != other[i] {
             return false;
         }
     }

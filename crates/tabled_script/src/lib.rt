@@ -31,6 +31,7 @@ mod request;
 mod room;
 mod script_form;
 mod setting;
+mod stray_options;
 mod telling;
 mod told_words;
 mod watched;

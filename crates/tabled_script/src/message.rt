@@ -1,11 +1,17 @@
-//! What is told of a faulty line: where it is, the word at fault, its likely cure, and the line's words.
+//! What is told of a faulty line: the word at fault, and its likely cure.
 
+use crate::setting::read_by;
 use std::alloc::{AllocError, Global};
 use tabled_help::{ENTRIES, WAYS, WORDS, nearest, way_of};
 use tabled_language::Fault;
 
 /// How the text that ends steps is written as one of their words.
 const THEN: &str = "; a text 'then' is written '\\then'";
+
+const OPTIONS_FIRST: &str = ": options stand before the steps";
+
+const CARRIAGE_RETURN: &str =
+    ": the line ends with a carriage return, and is to end with a newline alone";
 
 /// What is wrong with a line whose words are these, where the one of an index is at fault, and what may be meant: also the
 /// text `then`, where that ended this step or the one before.
@@ -16,49 +22,18 @@ pub(crate) fn complaint(
     at: usize,
     is_beside_then: bool,
 ) -> Result<String, AllocError> {
-    let verb = word_at(words, 0);
-    let word = word_at(words, at);
     let mut told = String::new(alloc);
     match fault {
-        Fault::UnknownWord => {
-            let is_known = push_unknown(alloc, &mut told, verb, word)?;
-            if is_beside_then && at == 0 && !is_known {
-                told.push_str(THEN)?;
-            }
-        }
-        Fault::WordCount if at < words.len() => {
-            push_quoted(&mut told, word)?;
-            told.push_str(" is left over: ")?;
-            if word.starts_with("--") {
-                told.push_str("options stand before the steps")?;
-            } else if is_verb(word) {
-                told.push_str("among arguments 'then' stands between two steps")?;
-            } else {
-                push_help(&mut told, verb)?;
-            }
-        }
-        Fault::WordCount => {
-            told.push_str("a word is missing behind ")?;
-            push_quoted(&mut told, word_at(words, words.len().saturating_sub(1)))?;
-            told.push_str(": ")?;
-            push_help(&mut told, verb)?;
-            if is_beside_then {
-                told.push_str(THEN)?;
-            }
-        }
-        Fault::NumberRange => {
-            push_quoted(&mut told, word)?;
-            told.push_str(" is no number that can stand here: ")?;
-            push_help(&mut told, verb)?;
-        }
-        Fault::Escape => told.push_str(
-            "a backslash begins no escape, or the bytes are no UTF-8: a backslash is written \\\\",
-        )?,
+        Fault::UnknownWord => push_unknown(alloc, &mut told, words, at, is_beside_then)?,
+        Fault::WordCount if at < words.len() => push_left_over(&mut told, words, at)?,
+        Fault::WordCount => push_missing(&mut told, words, is_beside_then)?,
+        Fault::NumberRange => push_no_number(&mut told, words, at)?,
+        Fault::Escape => told.push_str(escape_complaint(words))?,
         Fault::SelectorDepth => {
             told.push_str("a selector stands in 64 others: do it in more steps")?
         }
         Fault::OutOfPlace => {
-            push_quoted(&mut told, verb)?;
+            push_quoted(&mut told, word_at(words, 0))?;
             told.push_str(
                 " can't stand here: shape comes first, then rows, then spans, then steps",
             )?;
@@ -81,84 +56,174 @@ fn word_at(words: &[String], index: usize) -> &str {
     }
 }
 
-/// Adds what is told of a word that can't stand where it does, and says whether it is known what may be meant.
+/// Adds what is told of a word that can't stand where it does.
 fn push_unknown(
     alloc: Global,
     told: &mut String,
-    verb: &str,
-    word: &str,
-) -> Result<bool, AllocError> {
+    words: &[String],
+    at: usize,
+    is_beside_then: bool,
+) -> Result<(), AllocError> {
+    let (verb, word) = (word_at(words, 0), word_at(words, at));
     push_quoted(told, word)?;
     let lower = word.to_lowercase(alloc)?;
     if let Some(way) = way_of(lower.as_str(), &WAYS) {
         told.push_str(" is no word here: ")?;
-        told.push_str(way.way)?;
-        return Ok(true);
+        return told.push_str(way.way);
     }
     told.push_str(" is no word that can stand here")?;
-    if word.ends_with('\r') {
-        told.push_str(
-            ": the line ends with a carriage return, and is to end with a newline alone",
-        )?;
-        return Ok(true);
+    if let Some(options) = read_by(lower.as_str()) {
+        told.push_str(": a file is read by ")?;
+        told.push_str(options)?;
+        told.push(' ')?;
+        return told.push_str(word);
     }
-    if word.starts_with('-') {
-        told.push_str(": options stand before the steps")?;
-        return Ok(true);
+    if let Some(cure) = cure_of(word) {
+        return told.push_str(cure);
     }
-    if lower.ends_with(".csv") || lower.ends_with(".tsv") {
-        told.push_str(": a file is read by --csv ")?;
-        told.push_str(word)?;
-        return Ok(true);
-    }
-    if word.contains(' ') {
-        told.push_str(": single tabs part words, or, among arguments, blanks outside of quotes")?;
-        return Ok(true);
-    }
-    if word.contains(',') {
-        told.push_str(": CSV is read by --csv FILE, and from standard input by --csv -")?;
-        return Ok(true);
-    }
-    if let Some(meant) = meant_behind(verb, word) {
-        told.push_str("; maybe ")?;
-        told.push_str(meant)?;
-        told.push_str(" is meant")?;
-        return Ok(true);
+    if let Some(cure) = cure_behind(verb, word) {
+        return told.push_str(cure);
     }
     if WORDS.contains(&word) {
         told.push_str(": ")?;
-        push_help(told, verb)?;
-        return Ok(true);
+        return push_help(told, verb);
     }
-    match nearest(lower.as_str(), &WORDS) {
-        Some(meant) => {
-            told.push_str("; maybe ")?;
-            told.push_str(meant)?;
-            told.push_str(" is meant")?;
-            Ok(true)
+    if let Some(meant) = nearest(lower.as_str(), &WORDS) {
+        told.push_str("; maybe ")?;
+        told.push_str(meant)?;
+        return told.push_str(" is meant");
+    }
+    if at == 0 {
+        told.push_str(": --help lists all words")?;
+        return told.push_str(if is_beside_then { THEN } else { "" });
+    }
+    if takes_selector(verb) {
+        told.push_str("; maybe name ")?;
+        push_quoted(told, word)?;
+        return told.push_str(" is meant, the columns of that name");
+    }
+    told.push_str(": ")?;
+    push_help(told, verb)
+}
+
+/// The cure of a word that can stand nowhere.
+fn cure_of(word: &str) -> Option<&'static str> {
+    if word.ends_with('\r') {
+        return Some(CARRIAGE_RETURN);
+    }
+    if word.starts_with('\u{feff}') {
+        return Some(": it begins with a byte order mark, which a script has not");
+    }
+    if word.starts_with('-') {
+        return Some(OPTIONS_FIRST);
+    }
+    if word.ends_with(".script") {
+        return Some(": a script is read by --script FILE");
+    }
+    if word.starts_with('[') || word.starts_with('{') {
+        return Some(": JSON is read by --json FILE, and from standard input by --json -");
+    }
+    if word.contains(' ') {
+        return Some(": single tabs part words, or, among arguments, blanks outside of quotes");
+    }
+    if word.contains(',') {
+        return Some(": CSV is read by --csv FILE, and from standard input by --csv -");
+    }
+    None
+}
+
+/// The cure of a word behind a verb that has another one for it.
+fn cure_behind(verb: &str, word: &str) -> Option<&'static str> {
+    match (verb, word) {
+        ("remove", "name") => Some("; maybe remove named NAME is meant"),
+        ("remove", "row") => Some("; maybe remove rows A B is meant"),
+        ("remove", "column") => Some("; maybe remove columns A B is meant"),
+        ("keep", "row") => Some("; maybe keep rows WHAT .. is meant"),
+        ("keep", "column" | "name" | "named") => Some("; maybe keep columns WHAT .. is meant"),
+        ("sort", "numeric" | "numbers") => Some("; maybe number is meant"),
+        ("sort", "desc" | "descending") => Some("; maybe down is meant"),
+        ("sort", "asc" | "ascending" | "up") => {
+            Some(": the smallest stands first without a word for it")
         }
-        None => {
-            told.push_str(": --help lists all words")?;
-            Ok(false)
+        _ => None,
+    }
+}
+
+/// Adds what is told of words that are left over.
+fn push_left_over(told: &mut String, words: &[String], at: usize) -> Result<(), AllocError> {
+    let (verb, word) = (word_at(words, 0), word_at(words, at));
+    if verb == "concat" && !word.starts_with("--") {
+        told.push_str("concat takes as many texts as its rows times its columns: ")?;
+        return push_help(told, verb);
+    }
+    push_quoted(told, word)?;
+    told.push_str(" is left over")?;
+    if word.starts_with("--") {
+        return told.push_str(OPTIONS_FIRST);
+    }
+    if is_verb(word) {
+        return told.push_str(": among arguments 'then' stands between two steps");
+    }
+    told.push_str(": ")?;
+    push_help(told, verb)
+}
+
+/// Adds what is told where a word is missing.
+fn push_missing(
+    told: &mut String,
+    words: &[String],
+    is_beside_then: bool,
+) -> Result<(), AllocError> {
+    told.push_str("a word is missing behind ")?;
+    push_quoted(told, word_at(words, words.len().saturating_sub(1)))?;
+    told.push_str(": ")?;
+    push_help(told, word_at(words, 0))?;
+    told.push_str(if is_beside_then { THEN } else { "" })
+}
+
+/// Adds what is told of a word that is no number.
+fn push_no_number(told: &mut String, words: &[String], at: usize) -> Result<(), AllocError> {
+    let (verb, word) = (word_at(words, 0), word_at(words, at));
+    push_quoted(told, word)?;
+    let lines = (verb, word_at(words, 1));
+    told.push_str(if lines == ("keep", "rows") {
+        " is no index, slice or test of rows"
+    } else {
+        " is no number that can stand here"
+    })?;
+    if word.ends_with('\r') {
+        return told.push_str(CARRIAGE_RETURN);
+    }
+    if word.starts_with("--") {
+        return told.push_str(OPTIONS_FIRST);
+    }
+    match lines {
+        ("keep", "rows") => told.push_str(": a test is NAME=TEXT or, in quotes, NAME>NUMBER"),
+        ("remove", "columns") => {
+            told.push_str("; maybe remove named ")?;
+            push_quoted(told, word)?;
+            told.push_str(" is meant")
+        }
+        _ => {
+            told.push_str(": ")?;
+            push_help(told, verb)
         }
     }
 }
 
-/// What may be meant by a word behind a verb where it is one of other verbs.
-fn meant_behind(verb: &str, word: &str) -> Option<&'static str> {
-    match (verb, word) {
-        ("remove", "name") => Some("remove named NAME"),
-        ("remove", "row") => Some("remove rows A B"),
-        ("remove", "column") => Some("remove columns A B"),
-        _ => None,
+/// What is wrong with words of which one has a bad escape, or isn't UTF-8: then bytes of it are told as U+FFFD.
+fn escape_complaint(words: &[String]) -> &'static str {
+    if words.iter().any(|word| word.contains('\u{fffd}')) {
+        return "the bytes are no UTF-8: 'iconv -f LATIN1 -t UTF-8' makes it of Latin-1";
     }
+    "a backslash begins no escape: a backslash is written \\\\"
 }
 
 /// Adds a word in quotes, its control characters as escapes.
 pub(crate) fn push_quoted(told: &mut String, word: &str) -> Result<(), AllocError> {
     told.push('\'')?;
     for c in word.chars() {
-        if c.is_control() {
+        if c.is_control() || c == '\u{feff}' {
             for escaped in c.escape_default() {
                 told.push(escaped)?;
             }
@@ -175,6 +240,23 @@ fn is_verb(word: &str) -> bool {
         .iter()
         .take_while(|entry| entry.word != "all")
         .any(|entry| entry.word == word)
+}
+
+/// Says whether a selector stands behind a verb.
+fn takes_selector(verb: &str) -> bool {
+    matches!(
+        verb,
+        "set"
+            | "dup"
+            | "clean"
+            | "tabs"
+            | "wrap"
+            | "truncate"
+            | "replace"
+            | "cspan"
+            | "rspan"
+            | "merge"
+    )
 }
 
 /// Adds how the words of a verb are told.

@@ -22,10 +22,10 @@ pub(crate) fn unknown_names_text(
 }
 
 /// That columns are aligned by names that none of them has, in a line with those that there are.
-pub(crate) fn unknown_alignments_line(
+pub(crate) fn unknown_alignments_line<T: CellText>(
     alloc: Global,
     alignments: &Alignments,
-    records: &[Vec<LentText>],
+    records: &[Vec<T>],
 ) -> Result<Option<String>, AllocError> {
     let mut unknown = ToldWords::new(alloc);
     if let Alignments::Rules(rules) = alignments {
@@ -42,10 +42,10 @@ pub(crate) fn unknown_alignments_line(
 }
 
 /// That no column has these names, and those that there are; nothing where there are none of these.
-fn unknown_text(
+fn unknown_text<T: CellText>(
     alloc: Global,
     unknown: &ToldWords,
-    records: &[Vec<LentText>],
+    records: &[Vec<T>],
 ) -> Result<Option<String>, AllocError> {
     if unknown.words.is_empty() {
         return Ok(None);
@@ -56,18 +56,28 @@ fn unknown_text(
         Some(row) if !row.is_empty() => {
             told.push_str(": the first row has")?;
             ToldWords::of_texts(alloc, row)?.push_to(&mut told)?;
+            told.push_str(separator_cure(row))?;
         }
         _ => told.push_str(": there is none")?,
     }
     Ok(Some(told))
 }
 
+/// The cure of a first row that is one text, where a character stands in it that is likely to part texts.
+fn separator_cure<T: CellText>(row: &[T]) -> &'static str {
+    match row {
+        [text] if text.text().contains(';') => "; maybe --separator ';' is lacking",
+        [text] if text.text().contains('\t') => "; maybe --separator tab is lacking",
+        _ => "",
+    }
+}
+
 /// Adds a name, if no column has it.
-fn push_unknown(
+fn push_unknown<T: CellText>(
     alloc: Global,
     unknown: &mut ToldWords,
     name: &str,
-    records: &[Vec<LentText>],
+    records: &[Vec<T>],
 ) -> Result<(), AllocError> {
     if is_name(name, records) {
         return Ok(());
@@ -76,7 +86,7 @@ fn push_unknown(
 }
 
 /// Says whether a text stands in the first row.
-fn is_name(name: &str, records: &[Vec<LentText>]) -> bool {
+fn is_name<T: CellText>(name: &str, records: &[Vec<T>]) -> bool {
     match records.first() {
         Some(row) => row.iter().any(|text| text.text() == name),
         None => false,

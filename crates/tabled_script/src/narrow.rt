@@ -13,7 +13,7 @@ use tabled_draw::{Style, column_widths};
 use tabled_grid::config::SpannedConfig;
 use tabled_grid::records::{CellText, ExactRecords, PeekableRecords, Records};
 
-/// The texts of a table (`r x c`), each cut to its widest piece.
+/// The texts of a table, each cut to its widest piece.
 pub(crate) fn at_widest_pieces<R>(
     alloc: Global,
     records: &R,
@@ -28,7 +28,7 @@ where
     wrapped_texts(alloc, records, &Cut::Pieces)
 }
 
-/// The texts of a table (`r x c`), cut to the widths of its columns for a picture of a width. `pieces` are those texts,
+/// The texts of a table, cut to the widths of its columns for a picture of a width. `pieces` are those texts,
 /// each cut to its widest piece.
 pub(crate) fn cut_to<R>(
     alloc: Global,

@@ -6,7 +6,7 @@ ghost use Rattle.tabled_draw.specs.Markdown.{markdown};
 ghost use Rattle.tabled_draw.specs.Picture.{drawn_with};
 ghost use Rattle.tabled_draw.specs.Width.{picture_width};
 ghost use Rattle.tabled_grid.specs.Grid.{IsEven, grid_of, map_grid, map_items};
-ghost use Rattle.tabled_script.specs.InMemory.{texts_in};
+ghost use Rattle.tabled_script.specs.InMemory.{texts_by};
 ghost use Rattle.tabled_script.specs.Narrow.{WritesNarrowPicture};
 ghost use Rattle.tabled_script.specs.Outcome.{Fails, IsTooNarrow, OnlyFails};
 
@@ -18,13 +18,12 @@ use tabled_draw::laws::lines_take_the_width_of_their_picture;
 use tabled_draw::{Alignment, Drawing, Look, Markdown, Style};
 use tabled_grid::config::SpannedConfig;
 use tabled_grid::records::{CellText, ExactRecords, PeekableRecords, Records};
-use tabled_language::LentText;
 
 /// Writes the picture of a table with those of its merged cells that fit, and flushes the writer. All memory is
 /// asked for before the first byte: refused, nothing is written.
-pub(crate) fn write_picture<W: Write>(
+pub(crate) fn write_picture<T: CellText, W: Write>(
     alloc: Global,
-    records: Vec<Vec<LentText>>,
+    records: Vec<Vec<T>>,
     spans: &SpannedConfig,
     style: Style,
     alignments: &[Alignment],
@@ -32,7 +31,7 @@ pub(crate) fn write_picture<W: Write>(
 ) -> Outcome
     requires { IsEven (grid_of (map_items records.items)) }
     ensures written { OnOk result (
-        Appends (W.contents writer.old) (W.contents writer.new) (drawn_with style alignments.now (texts_in records.entry.items) spans.now)) }
+        Appends (W.contents writer.old) (W.contents writer.new) (drawn_with style alignments.now (texts_by T.text_of records.items) spans.now)) }
     ensures unwritten { IfErr result (OnlyFails (W.contents writer.old) (W.contents writer.new)) }
 {
     let look = Look::new(style).align(alignments);
@@ -53,7 +52,7 @@ impl TooNarrow {
     pub(crate) fn tell<E: Write>(self, alloc: Global, errors: &mut E) {
         let TooNarrow { asked, takes } = self;
         if let Ok(line) = format!(in alloc;
-            "tabled_script: no picture of the table is as narrow as {asked} columns: it takes {takes}\n"
+            "tabled_script: no picture of the table is as narrow as {asked} columns: it takes {takes}; keep fewer columns, or write --width {takes}\n"
         ) {
             // Where it can't be told, the answer is the same.
             let _ = errors.write_all(line.as_bytes());
@@ -61,8 +60,8 @@ impl TooNarrow {
     }
 }
 
-/// Writes a picture of a table (`r x c`) of at most n columns, in which texts are wrapped where that is needed. Where no
-/// picture is that narrow, nothing is written.
+/// Writes a picture of a table of at most `width` columns, in which texts are wrapped where that is needed. Where no picture
+/// is that narrow, nothing is written.
 pub(crate) fn write_narrow_picture<'a, R, W>(
     alloc: Global,
     records: &'a R,
@@ -103,7 +102,7 @@ where
     write_drawing(least, writer)
 }
 
-/// The picture of a table (`r x c`), laid out, and the columns that each of its lines takes.
+/// The picture of a table, laid out, and the columns that each of its lines takes.
 fn laid_out<'a, R>(
     alloc: Global,
     records: &'a R,
@@ -124,16 +123,16 @@ where
 
 /// Writes a table as Markdown, and flushes the writer. All memory is asked for before the first byte: refused, nothing
 /// is written.
-pub(crate) fn write_markdown<W: Write>(
+pub(crate) fn write_markdown<T: CellText, W: Write>(
     alloc: Global,
-    records: Vec<Vec<LentText>>,
+    records: Vec<Vec<T>>,
     spans: &SpannedConfig,
     alignments: &[Alignment],
     writer: &mut W,
 ) -> Outcome
     requires { IsEven (grid_of (map_items records.items)) }
     ensures written { OnOk result (
-        Appends (W.contents writer.old) (W.contents writer.new) (markdown alignments.now (texts_in records.entry.items) spans.now)) }
+        Appends (W.contents writer.old) (W.contents writer.new) (markdown alignments.now (texts_by T.text_of records.items) spans.now)) }
     ensures unwritten { IfErr result (OnlyFails (W.contents writer.old) (W.contents writer.new)) }
 {
     let markdown = Markdown::new(alloc, &records, spans, alignments)?;

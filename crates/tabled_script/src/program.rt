@@ -21,6 +21,7 @@ use crate::outcome::{DONE, FAILED, FAULTY, OUT_OF_MEMORY, Outcome, Unwritten, st
 use crate::reading::{Unread, read_whole};
 use crate::request::Request;
 use crate::room::Rooms;
+use crate::stray_options::tell_stray_options;
 use crate::telling::{Lines, tell_outcome, tell_ragged, tell_sources_error, tell_status};
 use std::alloc::{AllocError, Global};
 use std::io::{self, Read, Write};
@@ -82,15 +83,15 @@ pub fn draw_script<R: Read, W: Write>(alloc: Global, reader: &mut R, writer: &mu
 /// - 4: writing failed, and nothing is said of what was written.
 /// - 5: the table was written, and what was checked is doubtful, as was told.
 ///
-/// Nothing is written but the table. What else there is to tell, but why writing failed, goes to `errors`, in a line or two each; where that can't
-/// be written, or memory runs out, the answer is the same. A fault is told as that of `line N` of the script, of `step N`
-/// of the request, or of a line of a file, with its likely cure and the words of the line; first rows that differ with
-/// both; a picture that can't be as narrow with the columns that it takes. Of a step of the request that goes by names of
-/// columns, those that are no text of the first row before it are told, and the texts that are; of another one with a selector
-/// that names no cell of the table before it, or whose range lies outside, `names nothing in the table:` with its words.
-/// Where steps are checked, this is told of those of the script, too (but of names of kept lines alone that they name nothing),
-/// and of each step that it changes nothing, and of files whose rows have not all as many texts as the first; the status is 5
-/// then.
+/// Nothing is written but the table. What else there is to tell, but why writing failed, goes to `errors`, in a line or two
+/// each; where that can't be written, or memory runs out, the answer is the same:
+///
+/// - a fault, as that of `line N` of the script, of `step N` of the request, or of a line of a file, with its likely cure
+///   and its words; first rows that differ; how many columns a picture takes that can't be as narrow;
+/// - names of columns, by which a step of the request goes, that no text of the first row before it is, and those texts;
+/// - that another step of the request names no cell of the table before it, or that a word of a step is an option's name;
+/// - where steps are checked, that a step of the script does so, or goes by such names, that a step changes nothing or leaves
+///   no text, and that rows of files have not all as many texts as the first.
 ///
 /// Of this project.
 pub fn answer<W: Write, E: Write>(
@@ -126,6 +127,9 @@ pub fn answer<W: Write, E: Write>(
             let mut notes = Notes::new(errors);
             tell_ragged(alloc, request, &rows, &mut notes);
             let outcome = run_between(alloc, request, rows, script, writer, &mut notes);
+            if outcome.is_ok() {
+                tell_stray_options(alloc, &request.steps, &mut notes);
+            }
             tell_outcome(alloc, lines, &outcome, notes.errors);
             status_with_notes(&outcome, request.checks_steps && notes.has_notes)
         }

@@ -7,33 +7,31 @@ ghost use Rattle.std.specs.Str.{IsUtf8};
 ghost use Rattle.tabled_grid.specs.Grid.{IsEven, grid_of, map_items, width_of};
 ghost use Rattle.tabled_grid.specs.Spans.{rectangles};
 ghost use Rattle.tabled_held.specs.Pens.{Sends};
-ghost use Rattle.tabled_language.specs.Lent.{bytes_of, texts_in_row};
 ghost use Rattle.tabled_language.specs.Output.{line, print, row_line, span_line, table_lines};
 ghost use Rattle.tabled_language.specs.Word.{largest_size};
 ghost use Rattle.tabled_script.specs.Answer.{IsTableIfFitting};
-ghost use Rattle.tabled_script.specs.InMemory.{state_in, texts_in};
+ghost use Rattle.tabled_script.specs.InMemory.{state_by, texts_by};
 ghost use Rattle.tabled_script.specs.Outcome.{OnlyFails};
 
 use crate::outcome::Outcome;
-use crate::words::{write_numbers, write_word};
+use crate::words::{KnownWord, write_numbers, write_word};
 use std::alloc::Global;
 use std::io::{self, Write};
 use tabled_grid::config::{Rectangle, SpannedConfig};
 use tabled_grid::records::{ExactRecords, Records};
 use tabled_held::{Held, Pen};
-use tabled_language::LentText;
 
 /// Writes the lines of a table: its shape, its rows, and then its merged cells. It flushes the writer. All memory is
 /// asked for before the first byte: refused, nothing is written.
-pub(crate) fn write_script<W: Write>(
+pub(crate) fn write_script<T: KnownWord, W: Write>(
     alloc: Global,
-    records: &Vec<Vec<LentText>>,
+    records: &Vec<Vec<T>>,
     spans: &SpannedConfig,
     writer: &mut W,
 ) -> Outcome
     requires { IsEven (grid_of (map_items records.now.items)) }
-    ensures written { OnOk result (Appends (W.contents writer.old) (W.contents writer.new) (print (state_in records.now.items spans.now))) }
-    ensures known { OnOk result (IsTableIfFitting (state_in records.now.items spans.now)) }
+    ensures written { OnOk result (Appends (W.contents writer.old) (W.contents writer.new) (print (state_by T.text_of records.now.items spans.now))) }
+    ensures known { OnOk result (IsTableIfFitting (state_by T.text_of records.now.items spans.now)) }
     ensures unwritten { IfErr result (OnlyFails (W.contents writer.old) (W.contents writer.new)) }
 {
     let held = Held::new(alloc)?;
@@ -43,16 +41,16 @@ pub(crate) fn write_script<W: Write>(
 }
 
 /// Writes the lines of a table.
-fn send_lines<W: Write>(
+fn send_lines<T: KnownWord, W: Write>(
     writer: &mut W,
     held: Held,
-    records: &Vec<Vec<LentText>>,
+    records: &Vec<Vec<T>>,
     spans: &SpannedConfig,
 ) -> io::Result<()>
     requires even { IsEven (grid_of (map_items records.now.items)) }
     requires unused { held.bytes ≡ [] }
-    ensures written { OnOk result (Appends (W.contents writer.old) (W.contents writer.new) (print (state_in records.now.items spans.now))) }
-    ensures known { OnOk result (IsTableIfFitting (state_in records.now.items spans.now)) }
+    ensures written { OnOk result (Appends (W.contents writer.old) (W.contents writer.new) (print (state_by T.text_of records.now.items spans.now))) }
+    ensures known { OnOk result (IsTableIfFitting (state_by T.text_of records.now.items spans.now)) }
 {
     let mut pen = Pen::new(writer, held);
     write_table(&mut pen, records);
@@ -64,10 +62,10 @@ fn send_lines<W: Write>(
 }
 
 /// Writes a table's shape, and then its rows.
-fn write_table<W: Write>(pen: &mut Pen<'_, W>, records: &Vec<Vec<LentText>>)
+fn write_table<T: KnownWord, W: Write>(pen: &mut Pen<'_, W>, records: &Vec<Vec<T>>)
     requires { IsEven (grid_of (map_items records.now.items)) }
-    ensures sends { Sends W.contents pen.old pen.new (table_lines (texts_in records.now.items)) }
-    ensures texts { pen.new.held.failure ≡ None → AllByRecursion (AllByRecursion IsUtf8) (map (map bytes_of) (map_items records.now.items)) }
+    ensures sends { Sends W.contents pen.old pen.new (table_lines (texts_by T.text_of records.now.items)) }
+    ensures texts { pen.new.held.failure ≡ None → AllByRecursion (AllByRecursion IsUtf8) (map (map T.text_of) (map_items records.now.items)) }
     ensures sizes { (length (map_items records.now.items) ≤ largest_size) × (width_of (map_items records.now.items) ≤ largest_size) }
 {
     let shape = [records.count_rows(), records.count_columns()];
@@ -76,9 +74,9 @@ fn write_table<W: Write>(pen: &mut Pen<'_, W>, records: &Vec<Vec<LentText>>)
 }
 
 /// Writes the lines of rows, up to the first at which the writer has failed.
-fn write_rows<W: Write>(pen: &mut Pen<'_, W>, rows: &[Vec<LentText>])
-    ensures sends { Sends W.contents pen.old pen.new (flat_map (λ row. row_line (texts_in_row row)) rows.now) }
-    ensures texts { pen.new.held.failure ≡ None → AllByRecursion (λ row. AllByRecursion IsUtf8 (texts_in_row row)) rows.now }
+fn write_rows<T: KnownWord, W: Write>(pen: &mut Pen<'_, W>, rows: &[Vec<T>])
+    ensures sends { Sends W.contents pen.old pen.new (flat_map (λ row. row_line (map T.text_of row.items)) rows.now) }
+    ensures texts { pen.new.held.failure ≡ None → AllByRecursion (λ row. AllByRecursion IsUtf8 (map T.text_of row.items)) rows.now }
 {
     for row in rows {
         write_row(pen, row);
@@ -89,9 +87,9 @@ fn write_rows<W: Write>(pen: &mut Pen<'_, W>, rows: &[Vec<LentText>])
 }
 
 /// Writes the line of a row's texts.
-fn write_row<W: Write>(pen: &mut Pen<'_, W>, texts: &[LentText])
-    ensures sends { Sends W.contents pen.old pen.new (row_line (map bytes_of texts.now)) }
-    ensures texts { AllByRecursion IsUtf8 (map bytes_of texts.now) }
+fn write_row<T: KnownWord, W: Write>(pen: &mut Pen<'_, W>, texts: &[T])
+    ensures sends { Sends W.contents pen.old pen.new (row_line (map T.text_of texts.now)) }
+    ensures texts { AllByRecursion IsUtf8 (map T.text_of texts.now) }
 {
     pen.send(b"row");
     for text in texts {
@@ -101,10 +99,10 @@ fn write_row<W: Write>(pen: &mut Pen<'_, W>, texts: &[LentText])
 }
 
 /// Writes the lines of merged cells.
-fn write_spans<W: Write>(pen: &mut Pen<'_, W>, cfg: &SpannedConfig)
-    ensures { Sends W.contents pen.old pen.new (flat_map span_line (rectangles cfg.now)) }
+fn write_spans<W: Write>(pen: &mut Pen<'_, W>, spans: &SpannedConfig)
+    ensures { Sends W.contents pen.old pen.new (flat_map span_line (rectangles spans.now)) }
 {
-    for rectangle in cfg.rectangles() {
+    for rectangle in spans.rectangles() {
         let Rectangle { first, size } = *rectangle;
         let numbers = [first.row, first.col, size.height, size.width];
         write_numbers(pen, "span", &numbers);

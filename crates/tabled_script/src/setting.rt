@@ -43,7 +43,7 @@ pub enum Setting {
     Script,
     /// The file that the table is written to.
     Output,
-    /// That each step that names nothing in its table is told.
+    /// That what is doubtful of all steps and rows is told.
     Checks,
 }
 

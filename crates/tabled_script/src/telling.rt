@@ -10,9 +10,7 @@ use crate::request::{Request, Source};
 use crate::told_words::ToldWords;
 use std::alloc::{AllocError, Global};
 use std::io::Write;
-use tabled_language::{
-    Fault, LentText, Origin, count_lines, faulty_word, faulty_word_of_line, origin_of,
-};
+use tabled_language::{Fault, Origin, count_lines, faulty_word, faulty_word_of_line, origin_of};
 
 /// What a script is read from, as who wrote it counts.
 #[derive(Clone, Copy)]
@@ -153,7 +151,7 @@ pub(crate) fn tell_sources_error<E: Write>(
 pub(crate) fn tell_ragged<E: Write>(
     alloc: Global,
     request: &Request,
-    rows: &[Vec<LentText>],
+    rows: &[Vec<&str>],
     notes: &mut Notes<'_, E>,
 ) {
     let Some(first) = rows.first() else {
@@ -308,8 +306,8 @@ fn likely_encoding(bytes: &[u8]) -> &'static str {
 fn difference_lines(
     alloc: Global,
     names: (&str, &str),
-    head: &[LentText],
-    first: &[LentText],
+    head: &[&str],
+    first: &[&str],
 ) -> Result<String, AllocError> {
     let (name, other) = names;
     let mut told = format!(in alloc;

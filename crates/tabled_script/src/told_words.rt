@@ -3,7 +3,6 @@
 use crate::message::push_quoted;
 use std::alloc::{AllocError, Global};
 use tabled_grid::records::CellText;
-use tabled_language::LentText;
 
 /// How many bytes of words are told.
 const TOLD: usize = 400;
@@ -27,7 +26,7 @@ impl ToldWords {
     }
 
     /// As many texts of a row as are told.
-    pub(crate) fn of_texts(alloc: Global, row: &[LentText]) -> Result<Self, AllocError> {
+    pub(crate) fn of_texts<T: CellText>(alloc: Global, row: &[T]) -> Result<Self, AllocError> {
         let mut told = ToldWords::new(alloc);
         for text in row {
             told.push(alloc, text.text().as_bytes())?;

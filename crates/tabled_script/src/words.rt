@@ -1,15 +1,34 @@
 //! Words of lines, as a pen writes them.
 
 ghost use Rattle.std.specs.Fmt.{decimal};
-ghost use Rattle.std.specs.Prelude.{◌≡◌, ◌∷◌, IsTrue, IsUtf8, map};
+ghost use Rattle.std.specs.Prelude.{◌≡◌, ◌∷◌, IfSome, IsTrue, IsUtf8, map};
 ghost use Rattle.tabled_held.specs.Pens.{Sends};
-ghost use Rattle.tabled_language.specs.Lent.{bytes_of};
 ghost use Rattle.tabled_language.specs.Output.{escaped, escaped_byte, line};
 
 use std::io::Write;
 use tabled_grid::records::CellText;
 use tabled_held::Pen;
 use tabled_language::LentText;
+
+/// A cell of which the word that stands for its text in a script may be known without a look at its bytes.
+pub(crate) trait KnownWord: CellText {
+    /// This word, which is the text itself.
+    fn known_word(&self) -> Option<&str>
+        ensures text { IfSome result (λ word. word.now ≡ Self.text_of self.now) }
+        ensures word { IfSome result (λ word. word.now ≡ escaped (Self.text_of self.now)) };
+}
+
+impl<'a> KnownWord for LentText<'a> {
+    fn known_word(&self) -> Option<&str> {
+        self.as_word()
+    }
+}
+
+impl<'a> KnownWord for &'a str {
+    fn known_word(&self) -> Option<&str> {
+        None
+    }
+}
 
 /// Writes the line of a name and numbers.
 pub(crate) fn write_numbers<W: Write>(pen: &mut Pen<'_, W>, name: &str, numbers: &[usize])
@@ -18,22 +37,58 @@ pub(crate) fn write_numbers<W: Write>(pen: &mut Pen<'_, W>, name: &str, numbers:
 {
     pen.send(name.as_bytes());
     for number in numbers {
-        pen.send_byte(b'\t');
-        pen.send_number(*number);
+        write_number(pen, *number);
     }
     pen.send_byte(b'\n');
 }
 
+/// Writes a tab, and a number.
+#[inline(always)]
+fn write_number<W: Write>(pen: &mut Pen<'_, W>, number: usize)
+    ensures { Sends W.contents pen.old pen.new (9 ∷ decimal number) }
+{
+    pen.send_byte(b'\t');
+    // Most numbers of merged cells are small.
+    if number < 10 {
+        pen.send_byte(b'0' + number as u8);
+        return;
+    }
+    pen.send_number(number);
+}
+
 /// Writes a tab, and the word that stands for a text.
 #[inline(always)]
-pub(crate) fn write_word<W: Write>(pen: &mut Pen<'_, W>, text: &LentText)
-    ensures word { Sends W.contents pen.old pen.new (9 ∷ escaped (bytes_of text.now)) }
-    ensures text { IsUtf8 (bytes_of text.now) }
+pub(crate) fn write_word<T: KnownWord, W: Write>(pen: &mut Pen<'_, W>, text: &T)
+    ensures word { Sends W.contents pen.old pen.new (9 ∷ escaped (T.text_of text.now)) }
+    ensures text { IsUtf8 (T.text_of text.now) }
 {
-    match text.as_word() {
-        Some(word) => pen.send_behind(b'\t', word.as_bytes()),
-        None => write_escaped(pen, text.text()),
+    match text.known_word() {
+        Some(word) => send_word(pen, word),
+        None => write_other_word(pen, text),
     }
+}
+
+/// Sends a tab, and a word.
+#[inline(always)]
+fn send_word<W: Write>(pen: &mut Pen<'_, W>, word: &str)
+    ensures { Sends W.contents pen.old pen.new (9 ∷ word.now) }
+{
+    // Tables of many cells have many empty ones.
+    if word.is_empty() {
+        pen.send_byte(b'\t');
+        return;
+    }
+    pen.send_behind(b'\t', word.as_bytes());
+}
+
+/// Writes a tab, and the word that stands for a text of which no word is known.
+// A call of its own leaves one test of a text's kind to `write_word`.
+#[inline(never)]
+fn write_other_word<T: KnownWord, W: Write>(pen: &mut Pen<'_, W>, text: &T)
+    ensures word { Sends W.contents pen.old pen.new (9 ∷ escaped (T.text_of text.now)) }
+    ensures text { IsUtf8 (T.text_of text.now) }
+{
+    write_escaped(pen, text.text());
 }
 
 /// Writes a tab, and the word that stands for a text whose bytes are looked at first.

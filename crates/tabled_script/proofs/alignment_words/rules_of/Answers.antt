@@ -4,10 +4,9 @@ use Rattle.std.proofs.lemmas.List.{map-append}
 use Rattle.std.specs.List.{slice_split}
 use Rattle.std.specs.Option.{option_map}
 use Rattle.tabled_draw.proofs.Common.{split_has_more, split_pattern, split_text, lit<}
-use Rattle.tabled_script.proofs.Common.{[], ◌++◌, ◌∙◌, ◌∷◌, ◌≡◌, List, None, Some, ap, length, map, sym, ℕ}
+use Rattle.tabled_script.proofs.Common.{[], ◌∙◌, ◌∷◌, Some, ap, length, map, sym}
 use Rattle.tabled_script.proofs.EachOf.{each_of-more, each_of-none_at}
 use Rattle.tabled_script.specs.Aligners.{each_of, is_comma, rule_in, rule_of}
-use Rattle.tabled_script.specs.declared.alignments.AlignmentRule.{AlignmentRule}
 use Rattle.tabled_script.proofs.alignment_words.rules_of.Goals as goal
 
 pub returns-in_default : goal.returns-in_default

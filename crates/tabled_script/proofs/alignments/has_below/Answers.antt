@@ -1,8 +1,8 @@
 use Rattle.std.specs.List.{list_any, range_with_len}
-use Rattle.std.specs.Prelude.{◌-◌, ◌||◌, false, true}
+use Rattle.std.specs.Prelude.{◌-◌, false}
 use Rattle.std.proofs.lemmas.List.Folds.{list_any-append}
 use Rattle.tabled_grid.specs.Entity.{place}
-use Rattle.tabled_script.proofs.Common.{◌+◌, ◌<◌, ◌∙◌, ◌≡◌, ◌≤◌, ap, ap₂, arith, map_grid, refl, sym, ℕ}
+use Rattle.tabled_script.proofs.Common.{◌+◌, ◌<◌, ◌∙◌, ◌≡◌, ap, arith, map_grid, refl, sym, ℕ}
 use Rattle.tabled_script.proofs.Ranges.{any_in_range}
 use Rattle.tabled_settings.proofs.NamedLines.{range_one_more}
 use Rattle.tabled_script.specs.Aligners.{is_of}

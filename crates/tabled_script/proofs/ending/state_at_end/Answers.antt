@@ -1,4 +1,4 @@
-use Rattle.tabled_script.proofs.Common.{◌∙◌, ◌≡◌, after_all, ap, bytes_of, grid_of, map_items, refl, script_in, start, state_of, sym}
+use Rattle.tabled_script.proofs.Common.{◌∙◌, ◌≡◌, after_all, ap, bytes_of, grid_of, map_items, refl, script_in, start, state_of}
 use Rattle.tabled_script.proofs.Changes.{after_all-changed}
 use Rattle.tabled_script.proofs.ending.state_at_end.Goals as goal
 

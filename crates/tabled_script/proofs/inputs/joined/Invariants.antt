@@ -1,6 +1,6 @@
 use Rattle.std.specs.Prelude.{◌≡◌, ◌++◌, length}
 use Rattle.std.specs.Vec.Iter.{into_iter_items, into_iter_len}
-use Rattle.tabled_language.specs.Lent.{texts_in_records}
+use Rattle.tabled_csv.specs.Texts.{rows_of}
 use Rattle.tabled_script.proofs.inputs.joined.Given as goal
 
 abbrev pub invariant-loop-row : goal.invariant-loop-row
@@ -8,5 +8,5 @@ invariant-loop-row l = record {
   can : goal.iterator-loop-row.can_next l.row-iterator;
   ends : goal.iterator-loop-row.is_finite l.row-iterator;
   counted : into_iter_len l.row-iterator ≡ length (into_iter_items l.row-iterator);
-  leads : texts_in_records l.all.items ++ texts_in_records (into_iter_items l.row-iterator) ≡ texts_in_records l.initial.all.items ++ texts_in_records (into_iter_items l.initial.row-iterator);
+  leads : rows_of l.all.items ++ rows_of (into_iter_items l.row-iterator) ≡ rows_of l.initial.all.items ++ rows_of (into_iter_items l.initial.row-iterator);
 }

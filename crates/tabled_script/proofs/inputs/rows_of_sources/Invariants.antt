@@ -1,10 +1,10 @@
 use Rattle.std.specs.Prelude.{◌≡◌, take}
-use Rattle.tabled_language.specs.Lent.{texts_in_records}
+use Rattle.tabled_csv.specs.Texts.{rows_of}
 use Rattle.tabled_script.specs.Inputs.{HasTable}
 use Rattle.tabled_script.proofs.inputs.rows_of_sources.Given as goal
 
 abbrev pub invariant-loop-source : goal.invariant-loop-source
 invariant-loop-source l = record {
   counted : l.index ≡ l.source-index;
-  rows : HasTable (take l.source-index l.sources) (texts_in_records l.rows.items);
+  rows : HasTable (take l.source-index l.sources) (rows_of l.rows.items);
 }

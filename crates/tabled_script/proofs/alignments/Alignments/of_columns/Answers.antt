@@ -1,7 +1,7 @@
 use Rattle.std.proofs.lemmas.List.FromFn.{map-range_with_len_more}
 use Rattle.std.specs.List.{range_with_len}
 use Rattle.tabled_draw.specs.declared.alignment.Alignment.{Alignment}
-use Rattle.tabled_script.proofs.Common.{[], ◌++◌, ◌+◌, ◌∙◌, ◌∷◌, ◌≡◌, List, ap, arith, map, map_grid, sym, ℕ}
+use Rattle.tabled_script.proofs.Common.{[], ◌++◌, ◌∙◌, ◌∷◌, ◌≡◌, List, ap, arith, map, map_grid, sym}
 use Rattle.tabled_script.specs.Aligners.{alignment_by, rule_in}
 use Rattle.tabled_script.specs.declared.alignments.AlignmentRule.{AlignmentRule}
 use Rattle.tabled_script.proofs.alignments.Alignments.of_columns.Goals as goal

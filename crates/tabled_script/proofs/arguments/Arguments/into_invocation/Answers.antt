@@ -1,8 +1,8 @@
 -- What is asked for, as the fields have it.
-use Rattle.std.specs.Option.{option_map, unwrap_or}
+use Rattle.std.specs.Option.{option_map}
 use Rattle.std.specs.Prelude.{Bool}
 use Rattle.std.specs.String.{string_bytes}
-use Rattle.tabled_script.proofs.Common.{[], ◌∙◌, List, Option, ap, ap₂, ℕ}
+use Rattle.tabled_script.proofs.Common.{◌∙◌, List, Option, ap, ap₂, ℕ}
 use Rattle.tabled_script.proofs.Taken.{written_so}
 use Rattle.tabled_csv.specs.Grammar.{Dialect}
 use Rattle.tabled_script.specs.Aligners.{aligner}

@@ -3,7 +3,7 @@ use Rattle.tabled_draw.proofs.Common.{[], ◌∷◌, ◌≡◌, each, map, map_g
 use Rattle.tabled_grid.specs.Evenness.{AreWide}
 use Rattle.tabled_grid.specs.Grid.{map_items}
 use Rattle.tabled_script.specs.Cuts.{room_of, wrapped_row}
-use Rattle.tabled_script.proofs.cuts.wrapped_rows.Given as goal
+use Rattle.tabled_script.proofs.cuts.wrapped_texts.Given as goal
 
 abbrev pub invariant-loop-i : goal.invariant-loop-i
 invariant-loop-i g l = record {
