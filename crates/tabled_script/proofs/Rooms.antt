@@ -9,7 +9,7 @@ use Rattle.tabled_draw.specs.declared.style.Lines.{Lines}
 use Rattle.tabled_draw.specs.declared.style.Style.{Style}
 use Rattle.tabled_grid.specs.Evenness.{AreWide}
 use Rattle.tabled_grid.specs.Grid.{IsEven, grid_of, map_grid, width_of}
-use Rattle.tabled_script.specs.Cuts.{wrapped_row, wrapped_rows}
+use Rattle.tabled_script.specs.TextRooms.{wrapped_row, wrapped_rows}
 use Rattle.tabled_script.specs.Limits.{come_to, larger_of, levelled, limits}
 use Rattle.tabled_script.specs.Narrow.{Room, at_widest_piece, at_widest_pieces, at_widest_word, cut_to, in_columns, limits_of, wrapped_at, wrapped_by}
 

@@ -14,7 +14,7 @@ use Rattle.tabled_script.specs.declared.refusal.Misuse.TheVariants as misuse
 use Rattle.tabled_script.specs.declared.refusal.Refusal.{Refusal}
 use Rattle.tabled_script.specs.declared.setting.Drawn.{Drawn}
 use Rattle.tabled_script.specs.declared.setting.Setting.{Setting}
-use Rattle.tabled_script.specs.declared.setting.Written.{Written}
+use Rattle.tabled_script.specs.declared.setting.FormName.{FormName}
 
 pub wrong_value : (setting : Setting) (value : List ℕ) (asked after : Asked) → after ≡ set_to setting value asked → has_taken setting value after ≡ false
     → with_first_value setting value asked ≡ Err (misuse.WrongValue setting, value)
@@ -26,15 +26,15 @@ refused_for expected blamed refused (inl memory) is = inl memory
 refused_for expected blamed refused (inr refuses) is = inr (blamed, is, refuses)
 
 -- the form that is asked for, made of what is asked for
-module _ (asked : Asked) (how : Written) (look : Drawn) (width : Option ℕ) (alignments : Aligner) (separator : ℕ) (values : Values) (header : ℕ) (caption : Option (List ℕ)) (form : Form) where
-  abbrev given : Written → Drawn → Option ℕ → Aligner → ℕ → Values → ℕ → Option (List ℕ) → Type 0
+module _ (asked : Asked) (how : FormName) (look : Drawn) (width : Option ℕ) (alignments : Aligner) (separator : ℕ) (values : Values) (header : ℕ) (caption : Option (List ℕ)) (form : Form) where
+  abbrev given : FormName → Drawn → Option ℕ → Aligner → ℕ → Values → ℕ → Option (List ℕ) → Type 0
   given how look width alignments separator values header caption =
       IsForm (record { how = how; look = look; width = width; alignments = alignments; separator = separator; values = values; header = header; caption = caption }) form
 
   pub written_so : given how look width alignments separator values header caption → how ≡ written_of asked → look ≡ drawn_of asked → width ≡ width_of asked
       → alignments ≡ aligner_asked asked → separator ≡ to_separator_of asked → values ≡ values_of asked → header ≡ unwrap_or asked.header 0 → caption ≡ asked.caption → IsForm (writing_of asked) form
   written_so is hows looks widths lists parts valued headers captions =
-      subst (λ (x : Written). given x (drawn_of asked) (width_of asked) (aligner_asked asked) (to_separator_of asked) (values_of asked) (unwrap_or asked.header 0) asked.caption) hows
+      subst (λ (x : FormName). given x (drawn_of asked) (width_of asked) (aligner_asked asked) (to_separator_of asked) (values_of asked) (unwrap_or asked.header 0) asked.caption) hows
       (subst (λ (x : Drawn). given how x (width_of asked) (aligner_asked asked) (to_separator_of asked) (values_of asked) (unwrap_or asked.header 0) asked.caption) looks
       (subst (λ (x : Option ℕ). given how look x (aligner_asked asked) (to_separator_of asked) (values_of asked) (unwrap_or asked.header 0) asked.caption) widths
       (subst (λ (x : Aligner). given how look width x (to_separator_of asked) (values_of asked) (unwrap_or asked.header 0) asked.caption) lists

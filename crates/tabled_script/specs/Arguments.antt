@@ -16,12 +16,12 @@ use Rattle.tabled_script.specs.declared.setting.Drawn.{Drawn}
 use Rattle.tabled_script.specs.declared.setting.Kind.{Kind}
 use Rattle.tabled_script.specs.declared.setting.Setting.{Setting}
 use Rattle.tabled_script.specs.declared.setting.Setting.TheVariants as setting
-use Rattle.tabled_script.specs.declared.setting.Written.{Written}
+use Rattle.tabled_script.specs.declared.setting.FormName.{FormName}
 
 -- what was asked for so far, and what the next argument is
 pub record Asked : Type 0 where
   pub next : Next
-  pub written : Option Written
+  pub written : Option FormName
   pub draws : Bool
   pub drawn : Option Drawn
   pub alignments : Option (List ℕ)
@@ -76,6 +76,17 @@ names_input (setting.Rows kind) = true
 names_input setting.Script = true
 names_input other = false
 
+-- the setting's value names a file
+abbrev pub names_file : Setting → Bool
+names_file (setting.Rows kind) = true
+names_file setting.Script = true
+names_file setting.Output = true
+names_file other = false
+
+-- the word is an option
+abbrev pub is_option : List ℕ → Bool
+is_option word = is_some (named_in options word)
+
 -- the name of a file, if it is one
 abbrev pub file_named : List ℕ → Option (List ℕ)
 file_named name = if length name == 0 then None else Some name
@@ -118,12 +129,13 @@ with_first_value setting value asked =
 abbrev pub reads_input_again : Setting → List ℕ → Asked → Bool
 reads_input_again setting value asked = asked.reads_input && (names_input setting && is_input value)
 
--- what is asked for once a setting is set to a value: once at most, and standard input is read once
+-- what is asked for once a setting is set to a value: once at most, standard input is read once, and no option is the name of a file
 abbrev pub with_value : Setting → List ℕ → Asked → Result Asked Blamed
 with_value setting value asked =
     if is_set setting asked then Err (misuse.Repeated setting, value)
     else (if reads_input_again setting value asked then Err (misuse.InputRepeated, value)
-    else with_first_value setting value asked)
+    else (if names_file setting && is_option value then Err (misuse.OptionAsFile setting, value)
+    else with_first_value setting value asked))
 
 -- what is asked for once an option stands there by itself: what is behind it is its value, unless it takes none
 abbrev pub with_option : Option Setting → List ℕ → Asked → Result Asked Blamed

@@ -2,7 +2,6 @@ pub mod Again
 pub mod Aligners
 pub mod Answer
 pub mod Arguments
-pub mod Cuts
 pub mod Html
 pub mod InMemory
 pub mod Inputs
@@ -14,3 +13,4 @@ pub mod Refusals
 pub mod Requests
 pub mod Settings
 pub mod Status
+pub mod TextRooms

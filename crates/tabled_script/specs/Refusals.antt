@@ -119,6 +119,10 @@ reading_options name = unwrap_or (read_by name) (codes "--csv")
 abbrev pub file_text : List ℕ → List ℕ
 file_text name = name ++ (codes " is a file: " ++ (reading_options name ++ (32 ∷ name)))
 
+-- that an option stands where another one has the name of a file, and how a file of that name is named
+abbrev pub option_as_file_text : List ℕ → List ℕ → List ℕ
+option_as_file_text wanting option = wanting ++ (codes " wants a file, and " ++ (option ++ (codes " is an option: ./" ++ (option ++ codes " is a file of that name"))))
+
 -- what is wrong with an argument, or this part of it
 abbrev pub misuse_text : Misuse → List ℕ → List ℕ
 misuse_text misuse.NoOption option = option_text option
@@ -126,6 +130,7 @@ misuse_text (misuse.WrongValue setting) value = value_text setting value
 misuse_text (misuse.NeedlessValue setting) value = name_of setting ++ codes " takes no value"
 misuse_text (misuse.Repeated setting) value = name_of setting ++ codes " stands here twice"
 misuse_text misuse.InputRepeated name = codes "standard input is read once: - stands here twice"
+misuse_text (misuse.OptionAsFile setting) option = option_as_file_text (name_of setting) option
 misuse_text misuse.FileAsStep name = file_text name
 misuse_text misuse.NoColumns word = codes "wrap " ++ (word ++ codes " would leave no text: it takes a width of 1 or more")
 

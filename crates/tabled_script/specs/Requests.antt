@@ -26,8 +26,8 @@ use Rattle.tabled_script.specs.declared.setting.Kind.{Kind}
 use Rattle.tabled_script.specs.declared.setting.Kind.TheVariants as kind
 use Rattle.tabled_script.specs.declared.setting.Setting.{Setting}
 use Rattle.tabled_script.specs.declared.setting.Setting.TheVariants as setting
-use Rattle.tabled_script.specs.declared.setting.Written.{Written}
-use Rattle.tabled_script.specs.declared.setting.Written.TheVariants as written
+use Rattle.tabled_script.specs.declared.setting.FormName.{FormName}
+use Rattle.tabled_script.specs.declared.setting.FormName.TheVariants as written
 
 -- no argument: the script of standard input, and its table as a script
 abbrev pub nothing_asked : Asked
@@ -64,7 +64,7 @@ abbrev pub deciding : Asked → Option Setting
 deciding asked = find (λ s. is_set s asked) settings_of_forms
 
 -- what a table is written as where a setting decides it
-abbrev pub written_by : Option Setting → Option Written → Written
+abbrev pub written_by : Option Setting → Option FormName → FormName
 written_by None how = written.Script
 written_by (Some setting.Form) how = unwrap_or how written.Script
 written_by (Some setting.ToSeparator) how = written.Csv
@@ -74,7 +74,7 @@ written_by (Some setting.Caption) how = written.Html
 written_by (Some other) how = written.Picture
 
 -- what the table is written as
-abbrev pub written_of : Asked → Written
+abbrev pub written_of : Asked → FormName
 written_of asked = written_by (deciding asked) asked.written
 
 -- the setting says how HTML is written
@@ -85,7 +85,7 @@ says_html setting.Alignments = true
 says_html _ = false
 
 -- what is written so may be asked for with a setting
-abbrev pub goes_with : Written → Setting → Bool
+abbrev pub goes_with : FormName → Setting → Bool
 goes_with _ setting.Form = true
 goes_with written.Script _ = false
 goes_with written.Picture setting.ToSeparator = false
@@ -164,20 +164,20 @@ abbrev pub values_of : Asked → Values
 values_of asked = if asked.strings then values.Strings else values.Bare
 
 -- it is JSON, in this layout
-abbrev pub IsJson : Written → Layout → Type 0
+abbrev pub IsJson : FormName → Layout → Type 0
 IsJson written.Json laid = laid ≡ layout.Array
 IsJson written.JsonLines laid = laid ≡ layout.Lines
 IsJson _ laid = ⊥
 
 -- it is HTML, and whether that is a page of its own
-abbrev pub IsHtml : Written → Bool → Type 0
+abbrev pub IsHtml : FormName → Bool → Type 0
 IsHtml written.Html is_whole = is_whole ≡ false
 IsHtml written.HtmlPage is_whole = is_whole ≡ true
 IsHtml _ is_whole = ⊥
 
 -- how a table is to be written: as what, and drawn in what, how wide, how aligned, parted by what, with which values, and with how many rows of header under which caption
 pub record Writing : Type 0 where
-  pub how : Written
+  pub how : FormName
   pub look : Drawn
   pub width : Option ℕ
   pub alignments : Aligner

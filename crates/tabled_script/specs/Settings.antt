@@ -10,8 +10,8 @@ use Rattle.tabled_script.specs.declared.setting.Kind.{Kind}
 use Rattle.tabled_script.specs.declared.setting.Kind.TheVariants as kind
 use Rattle.tabled_script.specs.declared.setting.Setting.{Setting}
 use Rattle.tabled_script.specs.declared.setting.Setting.TheVariants as setting
-use Rattle.tabled_script.specs.declared.setting.Written.{Written}
-use Rattle.tabled_script.specs.declared.setting.Written.TheVariants as written
+use Rattle.tabled_script.specs.declared.setting.FormName.{FormName}
+use Rattle.tabled_script.specs.declared.setting.FormName.TheVariants as written
 
 -- the option that sets it
 abbrev pub name_of : Setting → List ℕ
@@ -57,7 +57,7 @@ options =
     ∷ []
 
 -- what a table is written as, by name
-abbrev pub forms : List (List ℕ × Written)
+abbrev pub forms : List (List ℕ × FormName)
 forms =
     (codes "script", written.Script)
     ∷ (codes "csv", written.Csv)

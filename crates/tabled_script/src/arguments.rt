@@ -4,7 +4,7 @@ ghost use Rattle.std.specs.Option.{option_map};
 ghost use Rattle.std.specs.Prelude.{◌≡◌, ◌++◌, IfOk, OnOk, map};
 ghost use Rattle.std.specs.String.{string_bytes};
 ghost use Rattle.tabled_script.specs.Aligners.{aligning};
-ghost use Rattle.tabled_script.specs.Arguments.{file_named, has_taken, is_input, is_set, leaves_no_text, names_input, reads_input_again, set_to, step_ended, step_of, taken, text_of_word, with_dashed, with_first_value, with_option, with_option_and_value, with_value, with_word, words_of};
+ghost use Rattle.tabled_script.specs.Arguments.{file_named, has_taken, is_input, is_option, is_set, leaves_no_text, names_file, names_input, reads_input_again, set_to, step_ended, step_of, taken, text_of_word, with_dashed, with_first_value, with_option, with_option_and_value, with_value, with_word, words_of};
 ghost use Rattle.tabled_script.specs.Refusals.{IsRefused, Takes};
 ghost use Rattle.tabled_script.specs.Requests.{nothing_asked};
 ghost use Rattle.tabled_script.specs.Settings.{named_in, options};
@@ -12,7 +12,7 @@ ghost use Rattle.tabled_script.specs.Settings.{named_in, options};
 use crate::alignment_words::aligner_of;
 use crate::refusal::{Misuse, Refusal};
 use crate::setting::{
-    Drawn, Kind, Setting, Written, drawn_named, read_by, separator_of, written_named,
+    Drawn, FormName, Kind, Setting, drawn_named, form_named, read_by, separator_of,
 };
 use std::alloc::{AllocError, Global};
 use std::marker::Model;
@@ -37,7 +37,7 @@ pub(crate) enum Next {
 #[derive(Drop)]
 pub struct Arguments {
     pub(crate) next: Next,
-    pub(crate) written: Option<Written>,
+    pub(crate) written: Option<FormName>,
     pub(crate) draws: bool,
     pub(crate) drawn: Option<Drawn>,
     pub(crate) alignments: Option<String>,
@@ -199,7 +199,8 @@ impl Arguments {
         }
     }
 
-    /// Sets a setting to a value, if it can have that and has none, and standard input is not read already.
+    /// Sets a setting to a value, if it can have that and has none, standard input is not read already, and no option
+    /// stands in a file's place.
     #[tactic(auto, using(crate::proofs::Taken::refused_for))]
     fn with_value(self, alloc: Global, setting: Setting, value: &str) -> Result<Self, Refusal>
         ensures { Takes (with_value setting value.now self) result }
@@ -209,6 +210,9 @@ impl Arguments {
         }
         if self.reads_input_again(setting, value) {
             return Err(misused(alloc, Misuse::InputRepeated, value));
+        }
+        if names_file(setting) && is_option(value) {
+            return Err(misused(alloc, Misuse::OptionAsFile(setting), value));
         }
         self.with_first_value(alloc, setting, value)
     }
@@ -243,7 +247,7 @@ impl Arguments {
         ensures { OnOk result (self.new ≡ set_to setting value.now self.old) }
     {
         match setting {
-            Setting::Form => self.written = written_named(value),
+            Setting::Form => self.written = form_named(value),
             Setting::Style => self.drawn = drawn_named(value),
             Setting::Alignments => self.alignments = aligning(alloc, value)?,
             Setting::Width => self.width = length_of(value),
@@ -377,6 +381,23 @@ fn names_input(setting: Setting) -> bool
     ensures { result ≡ names_input setting }
 {
     matches!(setting, Setting::Rows(_) | Setting::Script)
+}
+
+/// Says whether the value of a setting names a file.
+fn names_file(setting: Setting) -> bool
+    ensures { result ≡ names_file setting }
+{
+    matches!(
+        setting,
+        Setting::Rows(_) | Setting::Script | Setting::Output
+    )
+}
+
+/// Says whether a word is an option.
+fn is_option(word: &str) -> bool
+    ensures { result ≡ is_option word.now }
+{
+    Setting::named(word).is_some()
 }
 
 /// Says whether the file of a name is standard input.

@@ -8,7 +8,7 @@ ghost use Rattle.tabled_steps.specs.States.{after_all};
 use crate::names::unknown_names_text;
 use crate::notes::Notes;
 use crate::script_form::write_script;
-use crate::telling::{Doubt, Lines, doubt_line};
+use crate::telling::{Doubt, LineOrigins, doubt_line};
 use std::alloc::{AllocError, Global};
 use std::io::Write;
 use tabled_grid::config::SpannedConfig;
@@ -25,7 +25,7 @@ pub(crate) fn run_checked<E: Write>(
     steps: Vec<Step>,
     numbers: &[usize],
     checks_steps: bool,
-    lines: Lines,
+    lines: LineOrigins,
     notes: &mut Notes<'_, E>,
 ) -> Result<(), AllocError>
     requires { IsEven (grid_of (map_items records.old.items)) }

@@ -18,7 +18,7 @@ use crate::names::unknown_alignments_line;
 use crate::notes::Notes;
 use crate::outcome::{Outcome, Unwritten};
 use crate::request::Request;
-use crate::telling::Lines;
+use crate::telling::LineOrigins;
 use std::alloc::{AllocError, Global};
 use std::io::Write;
 use tabled_grid::config::SpannedConfig;
@@ -41,7 +41,7 @@ pub(crate) fn run_between<W: Write, E: Write>(
     if script.is_empty() && request.steps.is_empty() && are_even(&rows) {
         return write_rows(alloc, request, rows, writer, notes);
     }
-    let lines = Lines {
+    let lines = LineOrigins {
         rows: rows.len(),
         script,
         steps: &request.steps,
@@ -93,7 +93,7 @@ fn write_rows<W: Write, E: Write>(
 fn run_parsed<W: Write, E: Write>(
     alloc: Global,
     request: &Request,
-    lines: Lines,
+    lines: LineOrigins,
     script: Script,
     writer: &mut W,
     notes: &mut Notes<'_, E>,
@@ -124,7 +124,7 @@ fn tell_unaligned<T: CellText, E: Write>(
 fn state_at_end<'a, E: Write>(
     alloc: Global,
     checks_steps: bool,
-    lines: Lines,
+    lines: LineOrigins,
     script: Script<'a>,
     notes: &mut Notes<'_, E>,
 ) -> Result<(Vec<Vec<LentText<'a>>>, SpannedConfig), AllocError>

@@ -15,7 +15,7 @@ use crate::form::Form;
 use crate::html_form::HtmlPage;
 use crate::refusal::Refusal;
 use crate::request::{Format, Request, Source};
-use crate::setting::{Drawn, Kind, Setting, Written};
+use crate::setting::{Drawn, FormName, Kind, Setting};
 use std::alloc::{AllocError, Global};
 use tabled_csv::{Dialect, Separator};
 use tabled_draw::Style;
@@ -196,16 +196,16 @@ impl Arguments {
     }
 
     /// What the table is written as.
-    fn written(&self) -> Written
+    fn written(&self) -> FormName
         ensures { result ≡ written_of self.now }
     {
         match self.deciding() {
-            None => Written::Script,
-            Some(Setting::Form) => self.written.unwrap_or(Written::Script),
-            Some(Setting::ToSeparator) => Written::Csv,
-            Some(Setting::Strings) => Written::Json,
-            Some(Setting::Header | Setting::Caption) => Written::Html,
-            Some(_) => Written::Picture,
+            None => FormName::Script,
+            Some(Setting::Form) => self.written.unwrap_or(FormName::Script),
+            Some(Setting::ToSeparator) => FormName::Csv,
+            Some(Setting::Strings) => FormName::Json,
+            Some(Setting::Header | Setting::Caption) => FormName::Html,
+            Some(_) => FormName::Picture,
         }
     }
 
@@ -229,7 +229,7 @@ impl Arguments {
     }
 
     /// The first setting that doesn't go with what is written so, or says nothing of it.
-    fn misfit(&self, written: Written) -> Option<Setting>
+    fn misfit(&self, written: FormName) -> Option<Setting>
         ensures { result ≡ find (λ s. is_set s self.now && not (goes_with written s && says_something self.now s)) settings_of_forms }
     {
         SETTINGS_OF_FORMS.iter().copied().find(|setting| self.is_set(*setting)
@@ -248,19 +248,19 @@ impl Arguments {
 }
 
 /// Says whether what is written so may be asked for with a setting.
-fn goes_with(written: Written, setting: Setting) -> bool
+fn goes_with(written: FormName, setting: Setting) -> bool
     ensures { result ≡ goes_with written setting }
 {
     match (written, setting) {
         (_, Setting::Form) => true,
-        (Written::Script, _) => false,
-        (Written::Picture, _) => !matches!(
+        (FormName::Script, _) => false,
+        (FormName::Picture, _) => !matches!(
             setting,
             Setting::ToSeparator | Setting::Strings | Setting::Header | Setting::Caption
         ),
-        (Written::Csv, _) => setting == Setting::ToSeparator,
-        (Written::Json | Written::JsonLines, _) => setting == Setting::Strings,
-        (Written::Html | Written::HtmlPage, _) => says_html(setting),
+        (FormName::Csv, _) => setting == Setting::ToSeparator,
+        (FormName::Json | FormName::JsonLines, _) => setting == Setting::Strings,
+        (FormName::Html | FormName::HtmlPage, _) => says_html(setting),
     }
 }
 
@@ -277,7 +277,7 @@ fn says_html(setting: Setting) -> bool
 /// The form of what a table is written as and drawn in, how wide, how aligned, parted by what, with which values, and with
 /// how many rows of header under which caption.
 fn form_of(
-    written: Written,
+    written: FormName,
     look: Drawn,
     width: Option<usize>,
     alignments: Alignments,
@@ -298,23 +298,23 @@ fn form_of(
     }) result }
 {
     match written {
-        Written::Script => Form::Script,
-        Written::Csv => Form::Csv(separator),
-        Written::Json => Form::Json(Layout::Array, values),
-        Written::JsonLines => Form::Json(Layout::Lines, values),
-        Written::Html => Form::Html(HtmlPage {
+        FormName::Script => Form::Script,
+        FormName::Csv => Form::Csv(separator),
+        FormName::Json => Form::Json(Layout::Array, values),
+        FormName::JsonLines => Form::Json(Layout::Lines, values),
+        FormName::Html => Form::Html(HtmlPage {
             header,
             caption,
             alignments,
             is_whole: false,
         }),
-        Written::HtmlPage => Form::Html(HtmlPage {
+        FormName::HtmlPage => Form::Html(HtmlPage {
             header,
             caption,
             alignments,
             is_whole: true,
         }),
-        Written::Picture => match (look, width) {
+        FormName::Picture => match (look, width) {
             (Drawn::Markdown, _) => Form::Markdown(alignments),
             (Drawn::Style(style), None) => Form::Picture(style, alignments),
             (Drawn::Style(style), Some(width)) => Form::NarrowPicture(width, style, alignments),

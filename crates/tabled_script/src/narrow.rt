@@ -6,8 +6,8 @@ ghost use Rattle.tabled_grid.specs.Grid.{IsEven, grid_of, map_grid, map_items};
 ghost use Rattle.tabled_script.specs.Narrow.{at_widest_pieces, at_widest_word, cut_to, limits_of, wrapped_by};
 ghost use Rattle.tabled_draw.specs.Width.{column_widths};
 
-use crate::cuts::{Columns, Cut, wrapped_texts};
 use crate::limits::limits;
+use crate::text_rooms::{Columns, TextRoom, wrapped_texts};
 use std::alloc::{AllocError, Global};
 use tabled_draw::{Style, column_widths};
 use tabled_grid::config::SpannedConfig;
@@ -25,7 +25,7 @@ where
     ensures texts { IfOk result (λ texts. grid_of_texts (map_items texts.items) ≡ at_widest_pieces (map_grid R.Cell.text_of (R.grid records.now))) }
     ensures even { IfOk result (λ texts. IsEven (grid_of (map_items texts.items))) }
 {
-    wrapped_texts(alloc, records, &Cut::Pieces)
+    wrapped_texts(alloc, records, &TextRoom::WidestPiece)
 }
 
 /// The texts of a table, cut to the widths of its columns for a picture of a width. `pieces` are those texts,
@@ -64,7 +64,7 @@ where
         lines: style.columns,
         spans: &kept,
     };
-    wrapped_texts(alloc, records, &Cut::Cells(columns))
+    wrapped_texts(alloc, records, &TextRoom::Cell(columns))
 }
 
 /// The widths of the columns of a table whose texts are each cut to its widest word.
@@ -80,6 +80,6 @@ where
     requires { R.is_well_formed records.now }
     ensures { IfOk result (λ widths. widths.items ≡ column_widths style.now (wrapped_by at_widest_word (map_grid R.Cell.text_of (R.grid records.now))) spans.now) }
 {
-    let words = wrapped_texts(alloc, records, &Cut::Words)?;
+    let words = wrapped_texts(alloc, records, &TextRoom::WidestWord)?;
     column_widths(alloc, &words, spans, style)
 }

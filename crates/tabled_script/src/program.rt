@@ -22,7 +22,7 @@ use crate::reading::{Unread, read_whole};
 use crate::request::Request;
 use crate::room::Rooms;
 use crate::stray_options::tell_stray_options;
-use crate::telling::{Lines, tell_outcome, tell_ragged, tell_sources_error, tell_status};
+use crate::telling::{LineOrigins, tell_outcome, tell_ragged, tell_sources_error, tell_status};
 use std::alloc::{AllocError, Global};
 use std::io::{self, Read, Write};
 use tabled_draw::Style;
@@ -119,7 +119,7 @@ pub fn answer<W: Write, E: Write>(
     let sources = request.sources.as_slice();
     match rows_of_sources(alloc, sources, &mut rooms) {
         Ok(rows) => {
-            let lines = Lines {
+            let lines = LineOrigins {
                 rows: rows.len(),
                 script,
                 steps: &request.steps,

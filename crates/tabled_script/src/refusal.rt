@@ -4,7 +4,7 @@ ghost use Rattle.std.specs.List.{flat_map};
 ghost use Rattle.std.specs.Option.{option_map};
 ghost use Rattle.std.specs.Prelude.{◌≡◌, ◌++◌, ◌∷◌, IfOk, OnOk, map};
 ghost use Rattle.std.specs.String.{string_bytes};
-ghost use Rattle.tabled_script.specs.Refusals.{GetsFirst, cure_of, failure_of, failure_text, file_text, meant_in, misuse_text, names_text, option_text, reading_options, refusal_line, refusal_text, status_of, value_text};
+ghost use Rattle.tabled_script.specs.Refusals.{GetsFirst, cure_of, failure_of, failure_text, file_text, meant_in, misuse_text, names_text, option_as_file_text, option_text, reading_options, refusal_line, refusal_text, status_of, value_text};
 
 use crate::outcome::{FAILED, OUT_OF_MEMORY};
 use crate::setting::{FORMS, OPTIONS, Setting, read_by};
@@ -54,6 +54,8 @@ pub enum Misuse {
     Repeated(Setting),
     /// Standard input is read already.
     InputRepeated,
+    /// An option stands where the setting has the name of a file.
+    OptionAsFile(Setting),
     /// A step begins with the name of a file.
     FileAsStep,
     /// Texts can't be wrapped to no columns.
@@ -188,11 +190,21 @@ fn misuse_text(alloc: Global, misuse: Misuse, argument: &str) -> Result<String, 
         Misuse::InputRepeated => {
             format!(in alloc; "standard input is read once: - stands here twice")
         }
+        Misuse::OptionAsFile(setting) => option_as_file_text(alloc, setting.name(), argument),
         Misuse::FileAsStep => file_text(alloc, argument),
         Misuse::NoColumns => format!(in alloc;
             "wrap {argument} would leave no text: it takes a width of 1 or more"
         ),
     }
+}
+
+/// That an option stands where another one has the name of a file, and how a file of that name is named.
+fn option_as_file_text(alloc: Global, wanting: &str, option: &str) -> Result<String, AllocError>
+    ensures { IfOk result (λ text. string_bytes text ≡ option_as_file_text wanting.now option.now) }
+{
+    format!(in alloc;
+        "{wanting} wants a file, and {option} is an option: ./{option} is a file of that name"
+    )
 }
 
 /// That a step begins with the name of a file, and how that is read.

@@ -58,7 +58,7 @@ pub enum Kind {
 
 /// What a table is written as.
 #[derive(Clone, Copy, PartialEq, Eq)]
-pub(crate) enum Written {
+pub(crate) enum FormName {
     Script,
     Picture,
     Csv,
@@ -184,16 +184,16 @@ impl Kind {
 }
 
 /// What a table is written as, by name.
-pub(crate) fn written_named(name: &str) -> Option<Written>
+pub(crate) fn form_named(name: &str) -> Option<FormName>
     ensures { result ≡ named_in forms name.now }
 {
     match name {
-        "script" => Some(Written::Script),
-        "csv" => Some(Written::Csv),
-        "json" => Some(Written::Json),
-        "jsonl" => Some(Written::JsonLines),
-        "html" => Some(Written::Html),
-        "html-page" => Some(Written::HtmlPage),
+        "script" => Some(FormName::Script),
+        "csv" => Some(FormName::Csv),
+        "json" => Some(FormName::Json),
+        "jsonl" => Some(FormName::JsonLines),
+        "html" => Some(FormName::Html),
+        "html-page" => Some(FormName::HtmlPage),
         _ => None,
     }
 }

@@ -12,9 +12,9 @@ use std::alloc::{AllocError, Global};
 use std::io::Write;
 use tabled_language::{Fault, Origin, count_lines, faulty_word, faulty_word_of_line, origin_of};
 
-/// What a script is read from, as who wrote it counts.
+/// Where what is read as lines comes from: rows of files, the lines of a script, and the steps of arguments.
 #[derive(Clone, Copy)]
-pub(crate) struct Lines<'s, 'r> {
+pub(crate) struct LineOrigins<'s, 'r> {
     /// How many rows stand before the lines of the script.
     pub(crate) rows: usize,
     pub(crate) script: &'s [u8],
@@ -32,7 +32,7 @@ pub(crate) enum Doubt {
     LeavesNoText,
 }
 
-impl<'s, 'r> Lines<'s, 'r> {
+impl<'s, 'r> LineOrigins<'s, 'r> {
     /// The number of the last line of the script: the steps of arguments stand behind it.
     pub(crate) fn script_end(&self) -> usize {
         self.rows.saturating_add(count_lines(self.script))
@@ -108,7 +108,7 @@ impl<'s, 'r> Lines<'s, 'r> {
 /// memory ran out. Nothing is told where that can't be written, or memory runs out.
 pub(crate) fn tell_outcome<E: Write>(
     alloc: Global,
-    lines: Lines,
+    lines: LineOrigins,
     outcome: &Outcome,
     errors: &mut E,
 ) {
@@ -193,7 +193,7 @@ fn tell<E: Write>(told: Result<String, AllocError>, errors: &mut E) {
 /// A line that says where a faulty line stands, what is wrong with it and its cure, and one with its words.
 fn fault_lines(
     alloc: Global,
-    lines: Lines,
+    lines: LineOrigins,
     number: usize,
     fault: Fault,
 ) -> Result<String, AllocError> {
@@ -215,7 +215,7 @@ fn fault_lines(
 /// A line that says where a step stands and what is doubtful of it, and its words, but where names say it.
 pub(crate) fn doubt_line(
     alloc: Global,
-    lines: Lines,
+    lines: LineOrigins,
     number: usize,
     doubt: Doubt,
 ) -> Result<String, AllocError> {

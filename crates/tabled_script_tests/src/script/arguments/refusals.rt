@@ -97,6 +97,14 @@ fn what_cannot_be_asked_is_refused(rt: HostRuntime) -> Result<(), Fail> {
             "--json|-|--csv|-",
             "standard input is read once: - stands here twice",
         ),
+        (
+            "--csv|--style|modern",
+            "--csv wants a file, and --style is an option: ./--style is a file of that name",
+        ),
+        (
+            "--output|-o",
+            "--output wants a file, and -o is an option: ./-o is a file of that name",
+        ),
         ("sales.csv", "sales.csv is a file: --csv sales.csv"),
         ("a.json", "a.json is a file: --json a.json"),
         ("b.jsonl", "b.jsonl is a file: --json b.jsonl"),

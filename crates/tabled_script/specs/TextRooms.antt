@@ -6,19 +6,19 @@ use Rattle.tabled_grid.specs.Fitting.{Fits}
 use Rattle.tabled_grid.specs.Grid.{Grid}
 use Rattle.tabled_grid.specs.declared.config.position.Position.{Position}
 use Rattle.tabled_script.specs.Narrow.{Room, at_widest_piece, at_widest_word, in_columns, wrapped_at}
-use Rattle.tabled_script.specs.declared.cuts.Columns.{Columns}
-use Rattle.tabled_script.specs.declared.cuts.Cut.{Cut}
-use Rattle.tabled_script.specs.declared.cuts.Cut.TheVariants.{Cells, Pieces, Words}
+use Rattle.tabled_script.specs.declared.text_rooms.Columns.{Columns}
+use Rattle.tabled_script.specs.declared.text_rooms.TextRoom.{TextRoom}
+use Rattle.tabled_script.specs.declared.text_rooms.TextRoom.TheVariants.{Cell, WidestPiece, WidestWord}
 
 -- the room of the text at a place in columns
 abbrev pub room_in : Columns → Position → ℕ
 room_in c p = in_columns c.lines c.spans.now c.widths.now p []
 
 -- how many columns a text may have
-abbrev pub room_of : Cut → Room
-room_of Words = at_widest_word
-room_of Pieces = at_widest_piece
-room_of (Cells c) = in_columns c.lines c.spans.now c.widths.now
+abbrev pub room_of : TextRoom → Room
+room_of WidestWord = at_widest_word
+room_of WidestPiece = at_widest_piece
+room_of (Cell c) = in_columns c.lines c.spans.now c.widths.now
 
 -- these are the columns of a table, whose merged cells fit
 pub record AreColumns (c : Columns) (rows columns : ℕ) : Type 0 where
@@ -26,10 +26,10 @@ pub record AreColumns (c : Columns) (rows columns : ℕ) : Type 0 where
   pub each : 0 < rows → length c.widths.now ≡ columns
 
 -- the columns of cells are those of a table
-abbrev pub HasColumns : Cut → ℕ → ℕ → Type 0
-HasColumns Words rows columns = Unit {0}
-HasColumns Pieces rows columns = Unit {0}
-HasColumns (Cells c) rows columns = AreColumns c rows columns
+abbrev pub HasColumns : TextRoom → ℕ → ℕ → Type 0
+HasColumns WidestWord rows columns = Unit {0}
+HasColumns WidestPiece rows columns = Unit {0}
+HasColumns (Cell c) rows columns = AreColumns c rows columns
 
 -- the texts of a row
 abbrev pub wrapped_row : Room → Grid (List ℕ) → ℕ → List (List ℕ)

@@ -2,7 +2,7 @@
 use Rattle.std.proofs.Common.{ap, arith}
 use Rattle.tabled_grid.specs.declared.config.size.Size.{Size}
 use Rattle.tabled_script.proofs.Rooms.{ends-inside}
-use Rattle.tabled_script.proofs.cuts.Columns.room.Goals as goal
+use Rattle.tabled_script.proofs.text_rooms.Columns.room.Goals as goal
 
 pub room-requires-clause-end : goal.room-requires-clause-end
 room-requires-clause-end c =
