@@ -1,34 +1,59 @@
 //! JSON, read.
 
-use std::alloc::Global;
+use std::alloc::{AllocError, Global};
 use std::test::Fail;
-use tabled_json::{Room, Spare, read, read_table, read_table_with, table};
+use tabled_json::{Member, Room, Spare, read, read_table, read_table_with, table};
 
-/// Rows, with `|` behind each text and `/` behind each row.
-pub(crate) fn joined(alloc: Global, rows: &[Vec<&str>]) -> Result<String, Fail> {
-    let mut shown = String::new(alloc);
-    for row in rows {
-        for text in row {
-            shown.push_str(text)?;
-            shown.push('|')?;
-        }
-        shown.push('/')?;
-    }
-    Ok(shown)
+/// Writes a text and the character behind it.
+fn push_text(words: &mut String, text: &str, end: char) -> Result<(), AllocError> {
+    words.push_str(text)?;
+    words.push(end)
 }
 
-/// The table that bytes are read as, or the error.
-fn shown(alloc: Global, bytes: &[u8]) -> Result<String, Fail> {
-    let mut room = Room::new(alloc)?;
-    match read_table(alloc, bytes, &mut room) {
-        Ok(rows) => joined(alloc, &rows),
-        Err(error) => Ok(format!(in alloc; "{error}")?),
+/// Writes a row, with `|` behind each text and `/` behind the row.
+fn push_row(words: &mut String, row: &[&str]) -> Result<(), AllocError> {
+    for text in row {
+        push_text(words, text, '|')?;
+    }
+    words.push('/')
+}
+
+/// Rows, with `|` behind each text and `/` behind each row.
+fn joined(alloc: Global, rows: &[Vec<&str>]) -> Result<String, AllocError> {
+    let mut words = String::new(alloc);
+    for row in rows {
+        push_row(&mut words, row)?;
+    }
+    Ok(words)
+}
+
+/// Whether these are the words.
+pub(crate) fn is_word(made: Result<String, AllocError>, want: &str) -> bool {
+    match made {
+        Ok(words) => words.as_str() == want,
+        Err(_) => false,
+    }
+}
+
+/// Whether bytes are read in a room as this table, or with this error.
+fn reads_in(alloc: Global, bytes: &[u8], room: &mut Room, want: &str) -> bool {
+    match read_table(alloc, bytes, room) {
+        Ok(rows) => is_word(joined(alloc, &rows), want),
+        Err(error) => is_word(format!(in alloc; "{error}"), want),
+    }
+}
+
+/// Whether bytes are read as this table, or with this error.
+pub(crate) fn reads(alloc: Global, bytes: &[u8], want: &str) -> bool {
+    match Room::new(alloc) {
+        Ok(mut room) => reads_in(alloc, bytes, &mut room, want),
+        Err(_) => false,
     }
 }
 
 /// Each way in which records and rows stand, and each kind of value.
 #[test]
-fn reads_tables(rt: HostRuntime) -> Result<(), Fail> {
+fn reads_tables(rt: HostRuntime) {
     for &(json, want) in &[
         // No record, or none with a key.
         ("", ""),
@@ -77,15 +102,13 @@ fn reads_tables(rt: HostRuntime) -> Result<(), Fail> {
             "a|b|/1.0||{\"c\":[2]}|/",
         ),
     ] {
-        let read = shown(rt.alloc(), json.as_bytes())?;
-        assert_eq!(rt; read.as_str(), want, "{json}");
+        assert!(rt; reads(rt.alloc(), json.as_bytes(), want), "{json}");
     }
-    Ok(())
 }
 
 /// Each fault, with its place.
 #[test]
-fn tells_faults(rt: HostRuntime) -> Result<(), Fail> {
+fn tells_faults(rt: HostRuntime) {
     for &(json, want) in &[
         ("[", "line 1, column 2: the end comes too early"),
         ("[{\"a\":1}", "line 1, column 9: the end comes too early"),
@@ -192,60 +215,94 @@ fn tells_faults(rt: HostRuntime) -> Result<(), Fail> {
             "line 1, column 1: an object is wanted here",
         ),
     ] {
-        let read = shown(rt.alloc(), json.as_bytes())?;
-        assert_eq!(rt; read.as_str(), want, "{json}");
+        assert!(rt; reads(rt.alloc(), json.as_bytes(), want), "{json}");
     }
-    let latin = shown(rt.alloc(), b"{\"a\":1}\n{\"a\":\"caf\xe9\"}")?;
-    assert_eq!(rt; latin.as_str(), "line 2, column 6: a text is not UTF-8");
+    let latin = b"{\"a\":1}\n{\"a\":\"caf\xe9\"}";
+    assert!(rt; reads(rt.alloc(), latin, "line 2, column 6: a text is not UTF-8"));
+}
+
+/// Writes the members of an object, with `=` behind each key and `|` behind each text.
+fn push_members(words: &mut String, object: &[Member]) -> Result<(), AllocError> {
+    for member in object {
+        push_text(words, member.key, '=')?;
+        push_text(words, member.text, '|')?;
+    }
     Ok(())
+}
+
+/// The members of objects.
+fn members(alloc: Global, objects: &[Vec<Member>]) -> Result<String, AllocError> {
+    let mut words = String::new(alloc);
+    for object in objects {
+        push_members(&mut words, object)?;
+    }
+    Ok(words)
+}
+
+/// Whether the table of objects is this one.
+fn has_table(alloc: Global, objects: &[Vec<Member>], want: &str) -> bool {
+    match table(alloc, objects) {
+        Ok(rows) => is_word(joined(alloc, &rows), want),
+        Err(_) => false,
+    }
+}
+
+/// Whether bytes are read in a room as objects of these members, and whether this is their table.
+fn reads_objects_in(alloc: Global, bytes: &[u8], room: &mut Room, want: (&str, &str)) -> bool {
+    match read(alloc, bytes, room) {
+        Ok(objects) => is_word(members(alloc, &objects), want.0)
+            && has_table(alloc, &objects, want.1),
+        Err(_) => false,
+    }
 }
 
 /// Members stand as they are read, also where two have one key, and their table is that of `read_table`.
 #[test]
 fn reads_members(rt: HostRuntime) -> Result<(), Fail> {
-    let alloc = rt.alloc();
-    let json = "{\"a\":\"\\t\",\"b\":2,\"a\":3}";
-    let mut room = Room::new(alloc)?;
-    let Ok(objects) = read(alloc, json.as_bytes(), &mut room) else {
-        return Err(Fail::from("no records"));
-    };
-    let mut members = String::new(alloc);
-    for object in &objects {
-        for member in object {
-            members.push_str(member.key)?;
-            members.push('=')?;
-            members.push_str(member.text)?;
-            members.push('|')?;
-        }
-    }
-    assert_eq!(rt; members.as_str(), "a=\t|b=2|a=3|");
-    let rows = table(alloc, &objects)?;
-    assert_eq!(rt; joined(alloc, &rows)?.as_str(), "a|b|/3|2|/");
+    let json = b"{\"a\":\"\\t\",\"b\":2,\"a\":3}";
+    let want = ("a=\t|b=2|a=3|", "a|b|/3|2|/");
+    let mut room = Room::new(rt.alloc())?;
+    assert!(rt; reads_objects_in(rt.alloc(), json, &mut room, want));
     Ok(())
+}
+
+/// Records in which each key and each text has an escape.
+fn many_escapes(alloc: Global) -> Result<Vec<u8>, AllocError> {
+    let mut json = Vec::new(alloc);
+    for _ in 0..6000 {
+        json.extend_from_slice(b"{\"\\u0061\":\"a\\\\b\"}\n")?;
+    }
+    Ok(json)
+}
+
+/// Whether rows are those of many escapes.
+fn are_escapes(rows: &[Vec<&str>]) -> bool {
+    let mut want = "a";
+    for row in rows {
+        if !row.iter().all(|text: &&str| *text == want) {
+            return false;
+        }
+        want = "a\\b";
+    }
+    rows.len() == 6001
+}
+
+/// Whether many escapes are read into what is left of a room.
+fn reads_escapes<'a>(alloc: Global, json: &'a [u8], spare: &mut Spare<'a>) -> bool {
+    match read_table_with(alloc, json, spare) {
+        Ok(rows) => are_escapes(&rows),
+        Err(_) => false,
+    }
 }
 
 /// One room serves several texts, and more of them than its first parts hold.
 #[test]
 fn reads_many_escapes(rt: HostRuntime) -> Result<(), Fail> {
-    let alloc = rt.alloc();
-    let mut json = Vec::new(alloc);
-    for _ in 0..6000 {
-        json.extend_from_slice(b"{\"\\u0061\":\"a\\\\b\"}\n")?;
-    }
-    let mut room = Room::new(alloc)?;
+    let json = many_escapes(rt.alloc())?;
+    let mut room = Room::new(rt.alloc())?;
     let mut spare = Spare::new(&mut room);
     for _ in 0..2 {
-        let Ok(rows) = read_table_with(alloc, &json, &mut spare) else {
-            return Err(Fail::from("no records"));
-        };
-        assert_eq!(rt; rows.len(), 6001);
-        let mut want = "a";
-        for row in &rows {
-            for text in row {
-                assert_eq!(rt; *text, want);
-            }
-            want = "a\\b";
-        }
+        assert!(rt; reads_escapes(rt.alloc(), &json, &mut spare));
     }
     Ok(())
 }
