@@ -1,4 +1,4 @@
-"""The scripts of examples/ with what they print and their pictures: as tables of cases for tests, and for pages.
+"""The scripts of examples/ with what they print and their pictures, for pages.
 
 NAME.script prints NAME.table, and `--draw` draws it as NAME.picture; NAME.before.picture has the table before the steps.
 Each NAME.txt of gallery/ has all of that, below lines such as `== prints`.
@@ -8,7 +8,6 @@ import re
 from itertools import zip_longest
 from typing import NamedTuple
 
-FIELD, CASE = "\x1f", "\x1e"  # what separates the parts of a case, and cases
 IN_FRONT = ("shape", "row", "span")  # words of the lines in front of the steps
 LONG = 80  # characters of a line that a page shows whole
 GAP = "    gives    "
@@ -62,31 +61,6 @@ def examples(top):
     found = {it.stem: example(it) for it in top.glob("examples/*.script")}
     found |= {it.stem: whole_example(it) for it in top.glob("examples/gallery/*.txt")}
     return dict(sorted(found.items()))
-
-
-def escaped(text):
-    """A text as it is written in a literal."""
-    plain = {"\t": "\\t", "\n": "\\n", "\r": "\\r", "\\": "\\\\", '"': '\\"'}
-    return "".join(plain.get(it) or (f"\\u{{{ord(it):x}}}" if ord(it) < 32 else it) for it in text)
-
-
-def constant(name, cases):
-    """A table of cases as one text, since a list of many is slow to prove."""
-    lines = [escaped(FIELD.join(it)) for it in cases]
-    ends = [f"{escaped(CASE)}\\"] * (len(lines) - 1) + ['";']
-    return [f'pub(super) const {name}: &str = "\\', *(line + end for line, end in zip(lines, ends))]
-
-
-def test_cases(top):
-    """The module of the examples that the tests run."""
-    made = examples(top)
-    whole = [(name, it.script, it.output, it.output if it.is_faulty() else it.picture) for name, it in made.items()]
-    before = {("\n".join([*it.front(), ""]), it.before): name for name, it in made.items() if it.before}
-    out = ["//! The scripts of examples/ with what they print and their pictures. `docs/make` makes this file.", ""]
-    out += ["/// A name, a script, its output and its picture, or the fault twice: U+001F stands between them, and U+001E"]
-    out += ["/// before the next name.", *constant("EXAMPLES", whole), ""]
-    out += ["/// A name, the lines in front of the steps, and their picture, in the same way."]
-    return "\n".join([*out, *constant("BEFORE", [(name, *it) for it, name in before.items()])]) + "\n"
 
 
 def beside(left, right):

@@ -33,7 +33,11 @@ fn written(
     let mut bytes = Vec::new(alloc);
     match write(alloc, &mut bytes, layout, values, rows) {
         Ok(()) => String::from_utf8_lossy(alloc, &bytes),
-        Err(error) => format!(in alloc; "{error:?}"),
+        Err(WriteError::EqualKeys { first, second }) => {
+            format!(in alloc; "keys {first} and {second} are equal")
+        }
+        Err(WriteError::LongRow { row }) => format!(in alloc; "row {row} is too long"),
+        Err(_) => Err(AllocError),
     }
 }
 
@@ -85,14 +89,9 @@ const CASES: &[(Layout, Values, &str, &str)] = &[
         "{\"\\\"\\\\\\u000a\":\"\\u001f\\u0009\\u0000\u{e9}\u{7f}\"}\n",
     ),
     // Keys differ, and each text has one.
-    (
-        Array,
-        Bare,
-        "a|b|a/1|2|3",
-        "EqualKeys { first: 0, second: 2 }",
-    ),
-    (Lines, Bare, "a|/1|2/1|2|3", "LongRow { row: 2 }"),
-    (Lines, Bare, "|", "EqualKeys { first: 0, second: 1 }"),
+    (Array, Bare, "a|b|a/1|2|3", "keys 0 and 2 are equal"),
+    (Lines, Bare, "a|/1|2/1|2|3", "row 2 is too long"),
+    (Lines, Bare, "|", "keys 0 and 1 are equal"),
 ];
 
 #[test]

@@ -42,7 +42,7 @@ abbrev pub status_of : Refusal → ℕ
 status_of (Misused misuse text) = refused
 status_of (NoValue setting) = refused
 status_of (Contradictory first other) = refused
-status_of NoCsv = refused
+status_of (NoCsv setting) = refused
 status_of NotText = refused
 status_of Terminal = refused
 status_of (Failed name why) = failed
@@ -75,10 +75,14 @@ failure_text failure.Other = codes "reading or writing failed"
 abbrev pub names_text : List ℕ → List ℕ → List ℕ → List ℕ
 names_text kind name names = codes "there is no " ++ (kind ++ (32 ∷ name ++ (58 ∷ names)))
 
+-- how a table is written in a form that has a name elsewhere
+abbrev pub other_form : List ℕ → List ℕ
+other_form name = if bytes_eq name (codes "tsv") then codes "; tsv is --to csv --to-separator tab" else []
+
 -- what is wrong with a value
 abbrev pub value_text : Setting → List ℕ → List ℕ
 value_text setting.Style name = names_text (codes "style") name (flat_map (λ style. 32 ∷ style.now) NAMES)
-value_text setting.Form name = names_text (codes "form") name (flat_map (λ form. 32 ∷ form.0) forms)
+value_text setting.Form name = names_text (codes "form") name (flat_map (λ form. 32 ∷ form.0) forms) ++ other_form name
 value_text setting.Alignments value = codes "columns are aligned by letters, as llr, by auto, or by names, as Price=r,Region=c, not by " ++ value
 value_text setting.Width number = number ++ codes " is no number of columns"
 value_text setting.Columns number = number ++ codes " is no number of columns"
@@ -107,9 +111,13 @@ abbrev pub cure_of : List ℕ → Option (List ℕ) → List ℕ
 cure_of option None = codes ": --help lists them"
 cure_of option (Some meant) = if bytes_eq meant option then codes " here: it stands first" else codes "; maybe " ++ (meant ++ codes " is meant")
 
+-- the option that may be meant by one that isn't known: none by a single letter, which is like each other one
+unfoldable pub meant_by : List ℕ → Option (List ℕ)
+meant_by option = if nat_le (length option) 2 then None else meant_in option known_options
+
 -- that there is no such option
 abbrev pub option_text : List ℕ → List ℕ
-option_text option = codes "there is no option " ++ (option ++ cure_of option (meant_in option known_options))
+option_text option = codes "there is no option " ++ (option ++ cure_of option (meant_by option))
 
 -- the options that read a file, as its name ends
 unfoldable pub reading_options : List ℕ → List ℕ
@@ -139,7 +147,7 @@ abbrev pub refusal_text : Refusal → List ℕ
 refusal_text (Misused misuse text) = misuse_text misuse (string_bytes text)
 refusal_text (NoValue setting) = name_of setting ++ codes " lacks its value"
 refusal_text (Contradictory first other) = name_of first ++ (codes " and " ++ (name_of other ++ codes " contradict each other"))
-refusal_text NoCsv = codes "--no-quotes says how the files of --csv are read, and there is none"
+refusal_text (NoCsv setting) = name_of setting ++ codes " says how the files of --csv are read, and there is none"
 refusal_text NotText = codes "an argument isn't UTF-8"
 refusal_text Terminal = codes "a script comes in by standard input, which is a terminal here: write ./tabled_script [OPTIONS] [STEP [then STEP]..] < SCRIPT; --help tells the rest"
 refusal_text (Failed name why) = string_bytes name ++ (codes ": " ++ failure_text why)

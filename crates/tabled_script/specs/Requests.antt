@@ -124,15 +124,23 @@ abbrev pub awaited : Next → Option Setting
 awaited (next.Value setting) = Some setting
 awaited other = None
 
--- it is said how CSV is read, and there is none
-abbrev pub lacks_csv : Asked → Bool
-lacks_csv asked = asked.no_quotes && not asked.reads_csv
+-- what is written so is CSV
+abbrev pub writes_csv : FormName → Bool
+writes_csv written.Csv = true
+writes_csv other = false
+
+-- the setting that says how CSV is read or parted, where there is none
+abbrev pub lacks_csv : Asked → Option Setting
+lacks_csv asked =
+    if asked.reads_csv then None
+    else (if asked.no_quotes then Some setting.NoQuotes
+    else (if is_some asked.separator && not (writes_csv (written_of asked)) then Some setting.Separator else None))
 
 -- what is asked for lacks a value or a file of CSV, or contradicts itself, or there is no memory for it
 abbrev pub IsUnmade : Asked → Refusal → Type 0
 IsUnmade asked (NoValue setting) = awaited asked.next ≡ Some setting
 IsUnmade asked (Contradictory first other) = contradiction asked ≡ Some (first, other)
-IsUnmade asked NoCsv = lacks_csv asked ≡ true
+IsUnmade asked (NoCsv setting) = lacks_csv asked ≡ Some setting
 IsUnmade asked OutOfMemory = Unit {0}
 IsUnmade asked (Misused misuse text) = ⊥
 IsUnmade asked NotText = ⊥

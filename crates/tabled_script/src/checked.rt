@@ -1,6 +1,6 @@
 //! Steps that are done one after another, and told where they name or change nothing.
 
-ghost use Rattle.std.specs.Prelude.{◌≡◌, OnOk};
+ghost use Rattle.std.specs.Prelude.{◌≡◌, ◌∷◌, [], OnOk};
 ghost use Rattle.tabled_grid.specs.Grid.{IsEven, grid_of, map_items};
 ghost use Rattle.tabled_script.specs.InMemory.{state_in};
 ghost use Rattle.tabled_steps.specs.States.{after_all};
@@ -36,21 +36,35 @@ pub(crate) fn run_checked<E: Write>(
     let mut numbers = numbers.iter();
     for step in steps {
         let number = numbers.next().copied().unwrap_or(0);
-        let looks = checks_steps || script_end < number;
-        let doubt = if looks {
-            doubt_of(alloc, &step, lines.step_words(number), records)?
+        let look = if checks_steps || script_end < number {
+            let words = lines.step_words(number);
+            Look::at(alloc, &step, words, records, spans, checks_steps)?
         } else {
-            None
+            Look::nowhere()
         };
-        let look = Look::new(alloc, doubt, records, spans, checks_steps)?;
-        if let Err((_, error)) = run(alloc, records, spans, vec![in alloc; step]?) {
-            return Err(error);
-        }
+        run_one(alloc, records, spans, step)?;
         if let Some(doubt) = look.doubt(alloc, records, spans)? {
             notes.tell(doubt_line(alloc, lines, number, doubt));
         }
     }
     Ok(())
+}
+
+/// Does a step.
+fn run_one(
+    alloc: Global,
+    records: &mut Vec<Vec<LentText>>,
+    spans: &mut SpannedConfig,
+    step: Step,
+) -> Result<(), AllocError>
+    requires { IsEven (grid_of (map_items records.old.items)) }
+    ensures well { IsEven (grid_of (map_items records.new.items)) }
+    ensures state { OnOk result (state_in records.new.items spans.new ≡ after_all (step.entry ∷ []) (state_in records.old.items spans.old)) }
+{
+    match run(alloc, records, spans, vec![in alloc; step]?) {
+        Ok(()) => Ok(()),
+        Err((_, error)) => Err(error),
+    }
 }
 
 /// What was seen of a step and its table before it was done.
@@ -64,16 +78,26 @@ struct Look {
 impl Look {
     ghost use Rattle.tabled_grid.specs.Grid.{IsEven, grid_of, map_items};
 
-    /// Looks at a table where that is asked for and its step is not doubtful.
-    fn new(
+    /// No look at a step.
+    fn nowhere() -> Self {
+        Look {
+            doubt: None,
+            table: None,
+        }
+    }
+
+    /// Looks at a step of these words, and at its table where that is asked for and the step is not doubtful.
+    fn at(
         alloc: Global,
-        doubt: Option<Doubt>,
+        step: &Step,
+        words: &[String],
         records: &Vec<Vec<LentText>>,
         spans: &SpannedConfig,
         looks_at_table: bool,
     ) -> Result<Self, AllocError>
         requires { IsEven (grid_of (map_items records.now.items)) }
     {
+        let doubt = doubt_of(alloc, step, words, records)?;
         let table = if looks_at_table && doubt.is_none() {
             Some(printed(alloc, records, spans)?)
         } else {

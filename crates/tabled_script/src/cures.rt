@@ -12,7 +12,7 @@ pub(crate) fn cure_of_json(fault: Fault) -> &'static str {
         }
         Fault::NoArray => "rows are arrays, each of them, as [[1, 2], [3]]",
         Fault::Comma => "leave it out",
-        Fault::Closing => "leave it out, or the comma before it",
+        Fault::Closing => "leave it out, or the comma before it, or write what is missing there",
         Fault::SingleQuote => "write \" in its place",
         Fault::Comment => "leave it out",
         Fault::NoWord => {

@@ -6,7 +6,7 @@ ghost use Rattle.std.specs.Prelude.{◌≡◌, ◌++◌, ◌&&◌, ◌==◌, [],
 ghost use Rattle.std.specs.String.{string_bytes};
 ghost use Rattle.tabled_script.specs.Aligners.{aligner, aligner_of, listed};
 ghost use Rattle.tabled_script.specs.Arguments.{is_set, named_files, step_of, words_of};
-ghost use Rattle.tabled_script.specs.Requests.{IsForm, IsUnmade, awaited, contradiction, deciding, dialect_of, drawn_of, files_of, format_of, goes_with, lacks_csv, named_source, says_html, says_something, script_of, separator_of, settings_of_forms, to_separator_of, unread_files, values_of, writing_of, width_of, written_of};
+ghost use Rattle.tabled_script.specs.Requests.{IsForm, IsUnmade, awaited, contradiction, deciding, dialect_of, drawn_of, files_of, format_of, goes_with, lacks_csv, named_source, says_html, says_something, script_of, separator_of, settings_of_forms, to_separator_of, unread_files, values_of, writing_of, width_of, writes_csv, written_of};
 
 use crate::alignment_words::aligner_of;
 use crate::alignments::Alignments;
@@ -17,6 +17,7 @@ use crate::refusal::Refusal;
 use crate::request::{Format, Request, Source};
 use crate::setting::{Drawn, FormName, Kind, Setting};
 use std::alloc::{AllocError, Global};
+use std::marker::Model;
 use tabled_csv::{Dialect, Separator};
 use tabled_draw::Style;
 use tabled_json::{Layout, Values};
@@ -49,10 +50,10 @@ const SETTINGS_OF_FORMS: [Setting; 9] = [
 
 impl Arguments {
     /// What was asked for. The bytes of files are not read yet. It is refused where the last option lacks its value, two
-    /// contradict each other, or one says how CSV is read and there is none.
+    /// contradict each other, or one says how CSV is read or parted and there is none.
     pub fn into_invocation(self, alloc: Global) -> Result<Invocation, Refusal>
         ensures whole { IfOk result (λ _. awaited self.next ≡ None) }
-        ensures read { IfOk result (λ _. lacks_csv self ≡ false) }
+        ensures read { IfOk result (λ _. lacks_csv self ≡ None) }
         ensures agrees { IfOk result (λ _. contradiction self ≡ None) }
         ensures form { IfOk result (λ invocation. IsForm (writing_of self) invocation.request.form) }
         ensures sources { IfOk result (λ invocation. map named_source invocation.request.sources.items ≡ files_of self) }
@@ -68,14 +69,14 @@ impl Arguments {
         if let Some((first, other)) = self.contradiction() {
             return Err(Refusal::Contradictory(first, other));
         }
-        if self.lacks_csv() {
-            return Err(Refusal::NoCsv);
+        if let Some(setting) = self.lacking_csv() {
+            return Err(Refusal::NoCsv(setting));
         }
         let written = self.written();
         let look = self.look();
         let width = self.picture_width();
         let dialect = self.dialect();
-        let to_separator = self.written_separator();
+        let separator = self.written_separator();
         let values = self.values();
         let header = self.header_rows();
         let is_alone = self.is_without_files();
@@ -93,16 +94,17 @@ impl Arguments {
         push_step(&mut steps, step)?;
         let script = script_of(alloc, script, is_alone)?;
         let alignments = aligned(alloc, alignments)?;
-        let form = form_of(
+        let writing = FormParts {
             written,
             look,
             width,
             alignments,
-            to_separator,
+            separator,
             values,
             header,
             caption,
-        );
+        };
+        let form = writing.into_form();
         let sources = unread(alloc, sources, dialect)?;
         Ok(Invocation {
             request: Request {
@@ -153,11 +155,19 @@ impl Arguments {
         Dialect::new(self.read_separator()).quoting(!self.no_quotes)
     }
 
-    /// Says whether it is said how CSV is read, and there is none.
-    fn lacks_csv(&self) -> bool
+    /// The setting that says how CSV is read or parted, where there is none.
+    fn lacking_csv(&self) -> Option<Setting>
         ensures { result ≡ lacks_csv self.now }
     {
-        self.no_quotes && !self.reads_csv
+        if self.reads_csv {
+            None
+        } else if self.no_quotes {
+            Some(Setting::NoQuotes)
+        } else if self.separator.is_some() && !writes_csv(self.written()) {
+            Some(Setting::Separator)
+        } else {
+            None
+        }
     }
 
     /// What parts the fields of CSV that is written.
@@ -247,6 +257,13 @@ impl Arguments {
     }
 }
 
+/// Says whether what is written so is CSV.
+fn writes_csv(written: FormName) -> bool
+    ensures { result ≡ writes_csv written }
+{
+    matches!(written, FormName::Csv)
+}
+
 /// Says whether what is written so may be asked for with a setting.
 fn goes_with(written: FormName, setting: Setting) -> bool
     ensures { result ≡ goes_with written setting }
@@ -274,9 +291,10 @@ fn says_html(setting: Setting) -> bool
     )
 }
 
-/// The form of what a table is written as and drawn in, how wide, how aligned, parted by what, with which values, and with
-/// how many rows of header under which caption.
-fn form_of(
+/// How a table is to be written: as what, and drawn in what, how wide, how aligned, parted by what, with which values, and
+/// with how many rows of header under which caption.
+#[derive(Drop)]
+struct FormParts {
     written: FormName,
     look: Drawn,
     width: Option<usize>,
@@ -285,40 +303,65 @@ fn form_of(
     values: Values,
     header: usize,
     caption: Option<String>,
-) -> Form
-    ensures { IsForm (record {
-      how = written;
-      look = look;
-      width = width;
-      alignments = aligner alignments;
-      separator = separator;
-      values = values;
-      header = header;
-      caption = option_map string_bytes caption;
-    }) result }
-{
-    match written {
-        FormName::Script => Form::Script,
-        FormName::Csv => Form::Csv(separator),
-        FormName::Json => Form::Json(Layout::Array, values),
-        FormName::JsonLines => Form::Json(Layout::Lines, values),
-        FormName::Html => Form::Html(HtmlPage {
+}
+
+impl Model for FormParts {
+    ghost use Rattle.std.specs.Option.{option_map};
+    ghost use Rattle.std.specs.String.{string_bytes};
+    ghost use Rattle.tabled_script.specs.Aligners.{aligner};
+    ghost use Rattle.tabled_script.specs.Requests.{Writing};
+
+    ghost Value = { Writing };
+
+    ghost view = { λ parts. record {
+      how = parts.written;
+      look = parts.look;
+      width = parts.width;
+      alignments = aligner parts.alignments;
+      separator = parts.separator;
+      values = parts.values;
+      header = parts.header;
+      caption = option_map string_bytes parts.caption;
+    } };
+}
+
+impl FormParts {
+    fn into_form(self) -> Form
+        ensures { IsForm self result }
+    {
+        let FormParts {
+            written,
+            look,
+            width,
+            alignments,
+            separator,
+            values,
             header,
             caption,
-            alignments,
-            is_whole: false,
-        }),
-        FormName::HtmlPage => Form::Html(HtmlPage {
-            header,
-            caption,
-            alignments,
-            is_whole: true,
-        }),
-        FormName::Picture => match (look, width) {
-            (Drawn::Markdown, _) => Form::Markdown(alignments),
-            (Drawn::Style(style), None) => Form::Picture(style, alignments),
-            (Drawn::Style(style), Some(width)) => Form::NarrowPicture(width, style, alignments),
-        },
+        } = self;
+        match written {
+            FormName::Script => Form::Script,
+            FormName::Csv => Form::Csv(separator),
+            FormName::Json => Form::Json(Layout::Array, values),
+            FormName::JsonLines => Form::Json(Layout::Lines, values),
+            FormName::Html => Form::Html(HtmlPage {
+                header,
+                caption,
+                alignments,
+                is_whole: false,
+            }),
+            FormName::HtmlPage => Form::Html(HtmlPage {
+                header,
+                caption,
+                alignments,
+                is_whole: true,
+            }),
+            FormName::Picture => match (look, width) {
+                (Drawn::Markdown, _) => Form::Markdown(alignments),
+                (Drawn::Style(style), None) => Form::Picture(style, alignments),
+                (Drawn::Style(style), Some(width)) => Form::NarrowPicture(width, style, alignments),
+            },
+        }
     }
 }
 

@@ -2,9 +2,10 @@
 
 ghost use Rattle.std.specs.List.{flat_map};
 ghost use Rattle.std.specs.Option.{option_map};
-ghost use Rattle.std.specs.Prelude.{◌≡◌, ◌++◌, ◌∷◌, IfOk, OnOk, map};
+ghost use Rattle.std.specs.Prelude.{◌≡◌, ◌++◌, ◌∷◌, IfOk, OnOk, codes, map};
 ghost use Rattle.std.specs.String.{string_bytes};
-ghost use Rattle.tabled_script.specs.Refusals.{GetsFirst, cure_of, failure_of, failure_text, file_text, meant_in, misuse_text, names_text, option_as_file_text, option_text, reading_options, refusal_line, refusal_text, status_of, value_text};
+ghost use Rattle.tabled_script.specs.Refusals.{GetsFirst, cure_of, failure_of, failure_text, file_text, meant_by, meant_in, misuse_text, names_text, option_as_file_text, option_text, other_form, reading_options, refusal_line, refusal_text, status_of, value_text};
+ghost use Rattle.tabled_script.specs.Settings.{forms};
 
 use crate::outcome::{FAILED, OUT_OF_MEMORY};
 use crate::setting::{FORMS, OPTIONS, Setting, read_by};
@@ -28,8 +29,8 @@ pub enum Refusal {
     NoValue(Setting),
     /// Two options contradict each other.
     Contradictory(Setting, Setting),
-    /// It is said how CSV is read, and there is none.
-    NoCsv,
+    /// It is said by this how CSV is read, and there is none.
+    NoCsv(Setting),
     /// An argument isn't UTF-8.
     NotText,
     /// No script comes in: standard input is a terminal.
@@ -127,7 +128,7 @@ impl Refusal {
             Refusal::Misused(_, _)
             | Refusal::NoValue(_)
             | Refusal::Contradictory(_, _)
-            | Refusal::NoCsv
+            | Refusal::NoCsv(_)
             | Refusal::NotText
             | Refusal::Terminal => REFUSED,
             Refusal::Failed(_, _) => FAILED,
@@ -156,9 +157,10 @@ impl Refusal {
                 let (first, other) = (first.name(), other.name());
                 format!(in alloc; "{first} and {other} contradict each other")
             }
-            Refusal::NoCsv => format!(in alloc;
-                "--no-quotes says how the files of --csv are read, and there is none"
-            ),
+            Refusal::NoCsv(setting) => {
+                let option = setting.name();
+                format!(in alloc; "{option} says how the files of --csv are read, and there is none")
+            }
             Refusal::NotText => format!(in alloc; "an argument isn't UTF-8"),
             Refusal::Terminal => format!(in alloc;
                 "a script comes in by standard input, which is a terminal here: write ./tabled_script [OPTIONS] [STEP [then STEP]..] < SCRIPT; --help tells the rest"
@@ -236,7 +238,7 @@ fn option_text(alloc: Global, option: &str) -> Result<String, AllocError>
 {
     let mut text = String::from_str(alloc, "there is no option ")?;
     text.push_str(option)?;
-    push_cure(&mut text, option, meant_in(option, &OPTIONS))?;
+    push_cure(&mut text, option, meant_by(option))?;
     Ok(text)
 }
 
@@ -256,6 +258,17 @@ fn push_cure(text: &mut String, option: &str, meant: Option<&str>) -> Result<(),
     Ok(())
 }
 
+/// The option that may be meant by one that isn't known: none by a single letter, which is like each other one.
+#[tactic(auto, unfolding(crate::specs::Refusals::meant_by))]
+fn meant_by(option: &str) -> Option<&'static str>
+    ensures { option_map (λ it. it.now) result ≡ meant_by option.now }
+{
+    if option.len() <= 2 {
+        return None;
+    }
+    meant_in(option, &OPTIONS)
+}
+
 /// The option that may be meant by a word.
 fn meant_in<'o>(word: &str, options: &[&'o str]) -> Option<&'o str>
     ensures { option_map (λ option. option.now) result ≡ meant_in word.now (map (λ option. option.now) options.now) }
@@ -269,7 +282,7 @@ fn value_text(alloc: Global, setting: Setting, value: &str) -> Result<String, Al
 {
     match setting {
         Setting::Style => names_text(alloc, "style", value, &Style::NAMES),
-        Setting::Form => names_text(alloc, "form", value, &FORMS),
+        Setting::Form => form_text(alloc, value),
         Setting::Alignments => {
             format!(in alloc;
                 "columns are aligned by letters, as llr, by auto, or by names, as Price=r,Region=c, not by {value}"
@@ -297,6 +310,17 @@ fn value_text(alloc: Global, setting: Setting, value: &str) -> Result<String, Al
             format!(in alloc; "{option} takes no value")
         }
     }
+}
+
+/// That there is no form of a name, which there are, and how a table is written in one that has a name elsewhere.
+fn form_text(alloc: Global, name: &str) -> Result<String, AllocError>
+    ensures { IfOk result (λ text. string_bytes text ≡ names_text (codes "form") name.now (flat_map (λ form. 32 ∷ form.0) forms) ++ other_form name.now) }
+{
+    let mut text = names_text(alloc, "form", name, &FORMS)?;
+    if name == "tsv" {
+        text.push_str("; tsv is --to csv --to-separator tab")?;
+    }
+    Ok(text)
 }
 
 /// That there is nothing of some kind with a name, and which there are.

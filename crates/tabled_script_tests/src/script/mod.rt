@@ -1,12 +1,8 @@
-//! Tests of scripts, by public calls alone.
+//! Tests of scripts, by public calls alone: what can be typed stands in .ci/typed.
 
 mod answers;
-mod arguments;
 mod faults;
-mod gallery;
 mod help;
-mod json;
 mod refusals;
-mod sources;
 mod streams;
 mod widths;
