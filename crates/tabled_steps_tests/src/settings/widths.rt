@@ -16,38 +16,43 @@ fn wrapped(alloc: Global, text: &str, wrap: Wrap) -> Result<String, AllocError> 
     made(alloc, store, SpannedConfig::new(alloc), wrap)
 }
 
+/// Widths at which texts are cut between letters or words, the texts, and their lines.
+const CUTS: &[&str] = &[
+    "3 letters: abcde => abc\nde /",
+    "2 letters: a b c => a \nb \nc /",
+    "2 letters: ab\n\ncde\n => ab\n\ncd\ne\n /",
+    "5 words: aa bb cc => aa bb\ncc /",
+    "2 words: aa  bb => aa\nbb /",
+    "3 words: aa  bb => aa \nbb /",
+    "3 words: a abcdef b => a\nabc\ndef\nb /",
+    "3 words: a abcd b => a\nabc\nd b /",
+    "3 words:   aa =>  \naa /",
+    "3 words: aa    => aa  /",
+    "2 words: ab cd\n\nef gh\n => ab\ncd\n\nef\ngh\n /",
+    "2 letters: \u{4E2D}\u{6587}a => \u{4E2D}\n\u{6587}\na /",
+    "3 letters: \u{4E2D}\u{6587}a => \u{4E2D}\n\u{6587}a /",
+    "1 words: \u{4E2D}a => \u{4E2D}\na /",
+    "1 letters: \u{1F468}\u{200D}\u{1F469}a => \u{1F468}\u{200D}\u{1F469}\na /",
+    "2 words: \u{26A0}\u{FE0F} a => \u{26A0}\u{FE0F}\na /",
+    "2 letters: e\u{301}e\tf => e\u{301}e\n\tf /",
+    "3 words:  => _ /",
+    "0 letters: a\n => _ /",
+    "18446744073709551615 words: ab cd => ab cd /",
+];
+
+/// Whether a text is cut as a case says.
+fn is_cut(alloc: Global, case: &str) -> Option<bool> {
+    let (how, rest) = case.split_once(": ")?;
+    let (width, kept) = how.split_once(' ')?;
+    let (text, lines) = rest.split_once(" => ")?;
+    let wrap = Width::wrap(width.parse::<usize>().ok()?).keep_words(kept == "words");
+    Some(is_word(wrapped(alloc, text, wrap), lines))
+}
+
 #[test]
 fn lines_are_cut(rt: HostRuntime) {
-    let alloc = rt.alloc();
-    for &(text, width, keep_words, lines) in &[
-        ("abcde", 3, false, "abc\nde /"),
-        ("a b c", 2, false, "a \nb \nc /"),
-        ("ab\n\ncde\n", 2, false, "ab\n\ncd\ne\n /"),
-        ("aa bb cc", 5, true, "aa bb\ncc /"),
-        ("aa  bb", 2, true, "aa\nbb /"),
-        ("aa  bb", 3, true, "aa \nbb /"),
-        ("a abcdef b", 3, true, "a\nabc\ndef\nb /"),
-        ("a abcd b", 3, true, "a\nabc\nd b /"),
-        ("  aa", 3, true, " \naa /"),
-        ("aa   ", 3, true, "aa  /"),
-        ("ab cd\n\nef gh\n", 2, true, "ab\ncd\n\nef\ngh\n /"),
-        ("\u{4E2D}\u{6587}a", 2, false, "\u{4E2D}\n\u{6587}\na /"),
-        ("\u{4E2D}\u{6587}a", 3, false, "\u{4E2D}\n\u{6587}a /"),
-        ("\u{4E2D}a", 1, true, "\u{4E2D}\na /"),
-        (
-            "\u{1F468}\u{200D}\u{1F469}a",
-            1,
-            false,
-            "\u{1F468}\u{200D}\u{1F469}\na /",
-        ),
-        ("\u{26A0}\u{FE0F} a", 2, true, "\u{26A0}\u{FE0F}\na /"),
-        ("e\u{301}e\tf", 2, false, "e\u{301}e\n\tf /"),
-        ("", 3, true, "_ /"),
-        ("a\n", 0, false, "_ /"),
-        ("ab cd", usize::MAX, true, "ab cd /"),
-    ] {
-        let wrap = Width::wrap(width).keep_words(keep_words);
-        assert!(rt; is_word(wrapped(alloc, text, wrap), lines), "{text:?}");
+    for &case in CUTS {
+        assert!(rt; is_cut(rt.alloc(), case) == Some(true), "{case:?}");
     }
 }
 

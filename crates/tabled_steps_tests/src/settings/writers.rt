@@ -16,75 +16,85 @@ fn of_one(alloc: Global, text: &str) -> Result<VecRecords<Text<String>>, AllocEr
     VecRecords::new(alloc, vec![in alloc; cell]?)
 }
 
+/// Widths to which lines are cut and their suffixes, texts, and their lines.
+const CUTS: &[&str] = &[
+    "3 : abcde => abc /",
+    "5 ..: abcde => abcde /",
+    "4 ..: abcde => ab.. /",
+    "4 \u{2026}: abcde => abc\u{2026} /",
+    "5 ..: aa bb c => aa .. /",
+    // Lines that fit stay.
+    "3 ..: abc\nde\nfghi\n => abc\nde\nf..\n /",
+    // A suffix that is as wide, and one that is wider.
+    "2 ..: abc => .. /",
+    "2 +-*: abc => +- /",
+    "0 ..: abc => _ /",
+    "0 : abc\nd\n\ne => \n\n\n /",
+    "0 ..:  => _ /",
+    // Pieces are never cut.
+    "3 : \u{4E2D}\u{6587}a => \u{4E2D} /",
+    "3 .: \u{4E2D}\u{6587}a => \u{4E2D}. /",
+    "2 .: \u{4E2D}\u{6587}a => . /",
+    "1 \u{4E2D}: \u{4E2D}a => _ /",
+    "3 : \u{1F468}\u{200D}\u{1F469}ab => \u{1F468}\u{200D}\u{1F469}a /",
+    "1 : \u{1F468}\u{200D}\u{1F469}ab => _ /",
+    "2 : e\u{301}e\u{301}e => e\u{301}e\u{301} /",
+    "18446744073709551615 ..: ab cd => ab cd /",
+];
+
+/// Whether the lines of a text are cut as a case says.
+fn is_cut(alloc: Global, case: &str) -> Option<bool> {
+    let (how, rest) = case.split_once(": ")?;
+    let (width, suffix) = how.split_once(' ')?;
+    let (text, lines) = rest.split_once(" => ")?;
+    let cut = Width::truncate(width.parse::<usize>().ok()?).suffix(suffix);
+    let store = of_one(alloc, text).ok()?;
+    Some(is_word(made(alloc, store, SpannedConfig::new(alloc), cut), lines))
+}
+
 #[test]
 fn lines_are_cut_and_have_a_suffix(rt: HostRuntime) {
-    let alloc = rt.alloc();
-    for &(text, width, suffix, lines) in &[
-        ("abcde", 3, "", "abc /"),
-        ("abcde", 5, "..", "abcde /"),
-        ("abcde", 4, "..", "ab.. /"),
-        ("abcde", 4, "\u{2026}", "abc\u{2026} /"),
-        ("aa bb c", 5, "..", "aa .. /"),
-        // Lines that fit stay.
-        ("abc\nde\nfghi\n", 3, "..", "abc\nde\nf..\n /"),
-        // A suffix that is as wide, and one that is wider.
-        ("abc", 2, "..", ".. /"),
-        ("abc", 2, "+-*", "+- /"),
-        ("abc", 0, "..", "_ /"),
-        ("abc\nd\n\ne", 0, "", "\n\n\n /"),
-        ("", 0, "..", "_ /"),
-        // Pieces are never cut.
-        ("\u{4E2D}\u{6587}a", 3, "", "\u{4E2D} /"),
-        ("\u{4E2D}\u{6587}a", 3, ".", "\u{4E2D}. /"),
-        ("\u{4E2D}\u{6587}a", 2, ".", ". /"),
-        ("\u{4E2D}a", 1, "\u{4E2D}", "_ /"),
-        (
-            "\u{1F468}\u{200D}\u{1F469}ab",
-            3,
-            "",
-            "\u{1F468}\u{200D}\u{1F469}a /",
-        ),
-        ("\u{1F468}\u{200D}\u{1F469}ab", 1, "", "_ /"),
-        ("e\u{301}e\u{301}e", 2, "", "e\u{301}e\u{301} /"),
-        ("ab cd", usize::MAX, "..", "ab cd /"),
-    ] {
-        let store = of_one(alloc, text).expect(&rt, "there is memory");
-        let cut = made(
-            alloc,
-            store,
-            SpannedConfig::new(alloc),
-            Width::truncate(width).suffix(suffix),
-        );
-        assert!(rt; is_word(cut, lines), "{text:?}");
+    for &case in CUTS {
+        assert!(rt; is_cut(rt.alloc(), case) == Some(true), "{case:?}");
     }
+}
+
+/// What is replaced by what, texts, and what they become.
+const REPLACED: &[&str] = &[
+    "b by -: abcabc => a-ca-c /",
+    "bc by : abcabc => aa /",
+    "aa by b: aaa => ba /",
+    "aa by a: aaaa => aa /",
+    "aba by x: abab => xb /",
+    "abc by : abc => _ /",
+    "x by y: abc => abc /",
+    " by y: abc => abc /",
+    "a by y:  => _ /",
+    " by y:  => _ /",
+    "ab by y: a => a /",
+    "\u{4E2D} by ab: \u{4E2D}a\u{4E2D} => abaab /",
+    "\n by +: a\nb => a+b /",
+];
+
+/// Whether occurrences in a text are replaced as a case says.
+fn is_replaced(alloc: Global, case: &str) -> Option<bool> {
+    let (how, rest) = case.split_once(": ")?;
+    let (from, to) = how.split_once(" by ")?;
+    let (text, new) = rest.split_once(" => ")?;
+    let store = of_one(alloc, text).ok()?;
+    let replaced = made(
+        alloc,
+        store,
+        SpannedConfig::new(alloc),
+        Replace::new(from, to),
+    );
+    Some(is_word(replaced, new))
 }
 
 #[test]
 fn occurrences_are_replaced_from_the_left(rt: HostRuntime) {
-    let alloc = rt.alloc();
-    for &(text, from, to, new) in &[
-        ("abcabc", "b", "-", "a-ca-c /"),
-        ("abcabc", "bc", "", "aa /"),
-        ("aaa", "aa", "b", "ba /"),
-        ("aaaa", "aa", "a", "aa /"),
-        ("abab", "aba", "x", "xb /"),
-        ("abc", "abc", "", "_ /"),
-        ("abc", "x", "y", "abc /"),
-        ("abc", "", "y", "abc /"),
-        ("", "a", "y", "_ /"),
-        ("", "", "y", "_ /"),
-        ("a", "ab", "y", "a /"),
-        ("\u{4E2D}a\u{4E2D}", "\u{4E2D}", "ab", "abaab /"),
-        ("a\nb", "\n", "+", "a+b /"),
-    ] {
-        let store = of_one(alloc, text).expect(&rt, "there is memory");
-        let replaced = made(
-            alloc,
-            store,
-            SpannedConfig::new(alloc),
-            Replace::new(from, to),
-        );
-        assert!(rt; is_word(replaced, new), "{text:?}");
+    for &case in REPLACED {
+        assert!(rt; is_replaced(rt.alloc(), case) == Some(true), "{case:?}");
     }
 }
 

@@ -1,7 +1,6 @@
 //! Lines that come from rows, from bytes and from words.
 
 use std::alloc::Global;
-use std::test::Fail;
 use tabled_grid::records::CellText;
 use tabled_language::{
     LentText, Origin, ParseError, Script, count_lines, origin_of, parse_between,
@@ -58,42 +57,38 @@ fn said(alloc: Global, rows: &str, input: &str, words: &str) -> Option<String> {
     }
 }
 
+/// Rows, bytes and words, and what they say.
+const CASES: &[&str] = &[
+    " =>  =>  => ",
+    "a b / c =>  =>  => a b / c /",
+    "a => row\tb\nset\tall\tx\n => vmerge / hmerge => a / b / 3 4 5",
+    "a => row\tb\nset\tall\tx => vmerge / hmerge => a / b / 3 4 5",
+    "a => row\tb\\n\n\nvmerge\n\n => hmerge => a / b\n / 4 6",
+    "a =>  => row b / vmerge => a / b / 3",
+    " =>  => row b\tc / shape => words 2: 6",
+    "a b\\q =>  => header b\\q => a b\\q / 2",
+    "a => shape\t1\t1\n =>  => line 1: 6",
+    "a / b => vmerge\nrow\tc\n =>  => line 2: 6",
+    "a => vmerge\nheader\\q => header => line 2: 4",
+    "a => vmerge\n => rotate left / rotate up => words 2: 1",
+    "a => vmerge => rotate left / row b => words 2: 6",
+    "a b => span\t0\t0\t1\t2\n => set all x => a b / 3",
+    "a b =>  => span 0 0 1 3 => words 1: 7",
+    "a => \n =>  / vmerge => a / 4",
+    "a => \n => vmerge /  x => words 2: 1",
+];
+
+/// Whether rows, bytes and words say what stands behind them.
+fn says(alloc: Global, case: &str) -> Option<bool> {
+    let (rows, rest) = case.split_once(" => ")?;
+    let (input, rest) = rest.split_once(" => ")?;
+    let (words, want) = rest.split_once(" => ")?;
+    Some(said(alloc, rows, input, words)?.as_str() == want)
+}
+
 #[test]
-fn lines_come_from_rows_and_bytes_and_words(rt: HostRuntime) -> Result<(), Fail> {
-    for &(rows, input, words, want) in &[
-        ("", "", "", ""),
-        ("a b / c", "", "", "a b / c /"),
-        (
-            "a",
-            "row\tb\nset\tall\tx\n",
-            "vmerge / hmerge",
-            "a / b / 3 4 5",
-        ),
-        (
-            "a",
-            "row\tb\nset\tall\tx",
-            "vmerge / hmerge",
-            "a / b / 3 4 5",
-        ),
-        ("a", "row\tb\\n\n\nvmerge\n\n", "hmerge", "a / b\n / 4 6"),
-        ("a", "", "row b / vmerge", "a / b / 3"),
-        ("", "", "row b\tc / shape", "words 2: 6"),
-        ("a b\\q", "", "header b\\q", "a b\\q / 2"),
-        ("a", "shape\t1\t1\n", "", "line 1: 6"),
-        ("a / b", "vmerge\nrow\tc\n", "", "line 2: 6"),
-        ("a", "vmerge\nheader\\q", "header", "line 2: 4"),
-        ("a", "vmerge\n", "rotate left / rotate up", "words 2: 1"),
-        ("a", "vmerge", "rotate left / row b", "words 2: 6"),
-        ("a b", "span\t0\t0\t1\t2\n", "set all x", "a b / 3"),
-        ("a b", "", "span 0 0 1 3", "words 1: 7"),
-        ("a", "\n", " / vmerge", "a / 4"),
-        ("a", "\n", "vmerge /  x", "words 2: 1"),
-    ] {
-        let is_said = said(rt.alloc(), rows, input, words);
-        assert!(rt;
-            is_said.as_ref().map(|said| said.as_str()) == Some(want),
-            "{rows} | {input:?} | {words}"
-        );
+fn lines_come_from_rows_and_bytes_and_words(rt: HostRuntime) {
+    for &case in CASES {
+        assert!(rt; says(rt.alloc(), case) == Some(true), "{case:?}");
     }
-    Ok(())
 }

@@ -78,30 +78,35 @@ fn is_idle(alloc: Global, table: &str, words: &str) -> Option<bool> {
     step.names_nothing(alloc, &table).ok()
 }
 
+/// Tables, steps, and whether these name nothing there.
+const NAMING: &[&str] = &[
+    "n m / a 1 / b 2 / | keep rows 0 | something",
+    "n m / a 1 / b 2 / | keep rows 3 9: -4 | nothing",
+    "n m / a 1 / b 2 / | keep rows 3 2 | something",
+    "n m / a 1 / b 2 / | keep rows n=b | something",
+    "n m / a 1 / b 2 / | keep rows n=c o=a m>2 | nothing",
+    "n m / a 1 / b 2 / | keep columns m | something",
+    "n m / a 1 / b 2 / | keep columns 1 | something",
+    "n m / a 1 / b 2 / | keep columns o 2 | nothing",
+    "/ / | keep rows 0 | nothing",
+    " | keep columns : | nothing",
+    "n m / a 1 / b 2 / | sort rows 1 m number | something",
+    "n m / a 1 / b 2 / | sort rows 2 1 text | something",
+    "n m / a 1 / b 2 / | sort rows 3 1 text | nothing",
+    "n m / a 1 / b 2 / | sort rows 1 2 text | nothing",
+    "n m / a 1 / b 2 / | sort rows 1 o text down | nothing",
+];
+
+/// Whether a step names as much as its case says.
+fn names(alloc: Global, case: &str) -> Option<bool> {
+    let (table, rest) = case.split_once(" | ")?;
+    let (words, named) = rest.split_once(" | ")?;
+    Some(is_idle(alloc, table, words)? == (named == "nothing"))
+}
+
 #[test]
 fn some_name_nothing(rt: HostRuntime) {
-    let table = "n m / a 1 / b 2 /";
-    for &(table, words, is_wanted) in &[
-        (table, "keep rows 0", false),
-        (table, "keep rows 3 9: -4", true),
-        (table, "keep rows 3 2", false),
-        (table, "keep rows n=b", false),
-        (table, "keep rows n=c o=a m>2", true),
-        (table, "keep columns m", false),
-        (table, "keep columns 1", false),
-        (table, "keep columns o 2", true),
-        ("/ /", "keep rows 0", true),
-        ("", "keep columns :", true),
-        (table, "sort rows 1 m number", false),
-        (table, "sort rows 2 1 text", false),
-        (table, "sort rows 3 1 text", true),
-        (table, "sort rows 1 2 text", true),
-        (table, "sort rows 1 o text down", true),
-    ] {
-        assert_eq!(rt;
-            is_idle(rt.alloc(), table, words),
-            Some(is_wanted),
-            "{words}"
-        );
+    for &case in NAMING {
+        assert!(rt; names(rt.alloc(), case) == Some(true), "{case}");
     }
 }
