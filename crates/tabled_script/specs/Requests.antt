@@ -15,6 +15,7 @@ use Rattle.tabled_script.specs.declared.arguments.Next.{Next}
 use Rattle.tabled_script.specs.declared.arguments.Next.TheVariants as next
 use Rattle.tabled_script.specs.declared.form.Form.{Form}
 use Rattle.tabled_script.specs.declared.form.Form.TheVariants as form
+use Rattle.tabled_script.specs.declared.invocation.FormParts.{FormParts}
 use Rattle.tabled_script.specs.declared.refusal.Refusal.{Refusal}
 use Rattle.tabled_script.specs.declared.refusal.Refusal.TheVariants.{Contradictory, Failed, Misused, NoCsv, NoValue, NotText, OutOfMemory, Terminal}
 use Rattle.tabled_script.specs.declared.request.Format.{Format}
@@ -193,6 +194,19 @@ pub record Writing : Type 0 where
   pub values : Values
   pub header : ℕ
   pub caption : Option (List ℕ)
+
+-- how a table is to be written by what was found of it
+abbrev pub writing_in : FormParts → Writing
+writing_in parts = record {
+  how = parts.written;
+  look = parts.look;
+  width = parts.width;
+  alignments = aligner parts.alignments;
+  separator = parts.separator;
+  values = parts.values;
+  header = parts.header;
+  caption = option_map string_bytes parts.caption;
+}
 
 -- the form has what is said of it
 abbrev pub IsForm : Writing → Form → Type 0

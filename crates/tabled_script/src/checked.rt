@@ -59,7 +59,7 @@ fn run_one(
 ) -> Result<(), AllocError>
     requires { IsEven (grid_of (map_items records.old.items)) }
     ensures well { IsEven (grid_of (map_items records.new.items)) }
-    ensures state { OnOk result (state_in records.new.items spans.new ≡ after_all (step.entry ∷ []) (state_in records.old.items spans.old)) }
+    ensures state { OnOk result (state_in records.new.items spans.new ≡ after_all (step ∷ []) (state_in records.old.items spans.old)) }
 {
     match run(alloc, records, spans, vec![in alloc; step]?) {
         Ok(()) => Ok(()),

@@ -2,11 +2,11 @@
 
 ghost use Rattle.std.specs.List.{find};
 ghost use Rattle.std.specs.Option.{option_and_then, option_map, unwrap_or};
-ghost use Rattle.std.specs.Prelude.{◌≡◌, ◌++◌, ◌&&◌, ◌==◌, [], IfErr, IfOk, None, false, length, map, not};
+ghost use Rattle.std.specs.Prelude.{◌≡◌, ◌++◌, ◌&&◌, ◌==◌, [], IfErr, IfOk, None, length, map, not};
 ghost use Rattle.std.specs.String.{string_bytes};
 ghost use Rattle.tabled_script.specs.Aligners.{aligner, aligner_of, listed};
 ghost use Rattle.tabled_script.specs.Arguments.{is_set, named_files, step_of, words_of};
-ghost use Rattle.tabled_script.specs.Requests.{IsForm, IsUnmade, awaited, contradiction, deciding, dialect_of, drawn_of, files_of, format_of, goes_with, lacks_csv, named_source, says_html, says_something, script_of, separator_of, settings_of_forms, to_separator_of, unread_files, values_of, writing_of, width_of, writes_csv, written_of};
+ghost use Rattle.tabled_script.specs.Requests.{IsForm, IsUnmade, awaited, contradiction, deciding, dialect_of, drawn_of, files_of, format_of, goes_with, lacks_csv, named_source, says_html, says_something, script_of, separator_of, settings_of_forms, to_separator_of, unread_files, values_of, writing_of, width_of, writes_csv, writing_in, written_of};
 
 use crate::alignment_words::aligner_of;
 use crate::alignments::Alignments;
@@ -17,7 +17,6 @@ use crate::refusal::Refusal;
 use crate::request::{Format, Request, Source};
 use crate::setting::{Drawn, FormName, Kind, Setting};
 use std::alloc::{AllocError, Global};
-use std::marker::Model;
 use tabled_csv::{Dialect, Separator};
 use tabled_draw::Style;
 use tabled_json::{Layout, Values};
@@ -305,29 +304,9 @@ struct FormParts {
     caption: Option<String>,
 }
 
-impl Model for FormParts {
-    ghost use Rattle.std.specs.Option.{option_map};
-    ghost use Rattle.std.specs.String.{string_bytes};
-    ghost use Rattle.tabled_script.specs.Aligners.{aligner};
-    ghost use Rattle.tabled_script.specs.Requests.{Writing};
-
-    ghost Value = { Writing };
-
-    ghost view = { λ parts. record {
-      how = parts.written;
-      look = parts.look;
-      width = parts.width;
-      alignments = aligner parts.alignments;
-      separator = parts.separator;
-      values = parts.values;
-      header = parts.header;
-      caption = option_map string_bytes parts.caption;
-    } };
-}
-
 impl FormParts {
     fn into_form(self) -> Form
-        ensures { IsForm self result }
+        ensures { IsForm (writing_in self) result }
     {
         let FormParts {
             written,

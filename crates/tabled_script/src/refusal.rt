@@ -159,7 +159,9 @@ impl Refusal {
             }
             Refusal::NoCsv(setting) => {
                 let option = setting.name();
-                format!(in alloc; "{option} says how the files of --csv are read, and there is none")
+                format!(in alloc;
+                    "{option} says how the files of --csv are read, and there is none"
+                )
             }
             Refusal::NotText => format!(in alloc; "an argument isn't UTF-8"),
             Refusal::Terminal => format!(in alloc;

@@ -13,11 +13,11 @@ use Rattle.tabled_script.proofs.arguments.Arguments.into_invocation.Goals as goa
 
 pub returns-clause-form : goal.returns-clause-form
 returns-clause-form c =
-    written_so c.args.self c.written-written.result c.look-look.result c.picture_width-width.result (aligner c.in_ok-alignments.alignments) c.written_separator-to_separator.result c.values-values.result
-    c.header_rows-header.result (option_map string_bytes c.self.inside.caption) c.form_of-form.result c.form_of-form.ensures
+    written_so c.args.self c.written-written.result c.look-look.result c.picture_width-width.result (aligner c.in_ok-alignments.alignments) c.written_separator-separator.result c.values-values.result
+    c.header_rows-header.result (option_map string_bytes c.self.inside.caption) c.into_form-form.result c.into_form-form.ensures
     c.written-written.ensures c.look-look.ensures c.picture_width-width.ensures
     (c.in_ok-alignments.ensures ∙ ap aligner_asked c.self.view_is)
-    c.written_separator-to_separator.ensures c.values-values.ensures c.header_rows-header.ensures (ap (λ (a : Asked). a.caption) c.self.view_is)
+    c.written_separator-separator.ensures c.values-values.ensures c.header_rows-header.ensures (ap (λ (a : Asked). a.caption) c.self.view_is)
 
 pub returns-clause-sources : goal.returns-clause-sources
 returns-clause-sources c =
