@@ -1,4 +1,4 @@
-//! Pictures of the original crate's documentation in its default look, of tables that calls make.
+//! Pictures of tables that calls make: those of the original crate's documentation in its default look, and a calendar.
 
 use super::scripts::has_lines;
 use std::alloc::{AllocError, Global};
@@ -7,8 +7,10 @@ use tabled_draw::picture;
 use tabled_grid::config::Position;
 use tabled_select::location::Locator;
 use tabled_select::object::Rows;
+use tabled_settings::concat::Concat;
 use tabled_settings::extract::Extract;
 use tabled_settings::format::Format;
+use tabled_settings::split::Split;
 use tabled_table::Table;
 use tabled_table::builder::Builder;
 
@@ -177,6 +179,43 @@ row\thttps://wiki.debian.org/UEFI\t
 | https://wiki.debian.org/UEFI                                          |         |
 +-----------------------------------------------------------------------+---------+";
 
+/// A diary, and the picture of its calendar.
+const CALENDAR: &str = "calendar
+row\tDay\tEntry
+row\t1\tRent
+row\t2\t
+row\t3\tDentist
+row\t4\t
+row\t5\tCinema
+row\t6\t
+row\t7\t
+row\t8\t
+row\t9\tLibrary
+row\t10\t
+row\t11\tCall Ada
+row\t12\t
+row\t13\tHike
+row\t14
+row\t15
+row\t16
+row\t17\tDeadline
+=
++------+---------+----------+----------+--------+------+-----+
+| Mon  | Tue     | Wed      | Thu      | Fri    | Sat  | Sun |
++------+---------+----------+----------+--------+------+-----+
+| 1    | 2       | 3        | 4        | 5      | 6    | 7   |
++------+---------+----------+----------+--------+------+-----+
+| Rent |         | Dentist  |          | Cinema |      |     |
++------+---------+----------+----------+--------+------+-----+
+| 8    | 9       | 10       | 11       | 12     | 13   | 14  |
++------+---------+----------+----------+--------+------+-----+
+|      | Library |          | Call Ada |        | Hike |     |
++------+---------+----------+----------+--------+------+-----+
+| 15   | 16      | 17       |          |        |      |     |
++------+---------+----------+----------+--------+------+-----+
+|      |         | Deadline |          |        |      |     |
++------+---------+----------+----------+--------+------+-----+";
+
 /// A builder of the records that `row` lines have.
 fn builder_of(alloc: Global, records: &str) -> Result<Builder, AllocError> {
     let mut builder = Builder::new(alloc);
@@ -211,8 +250,20 @@ fn made(alloc: Global, calls: &str, records: &str) -> Result<Table, AllocError> 
             let index = builder.index(alloc)?.column(alloc, 1)?;
             index.transpose(alloc)?.build(alloc)
         }
+        "calendar" => calendar(alloc, builder),
         _ => written(alloc, calls, builder.build(alloc)?),
     }
+}
+
+/// The weeks of a diary below one another, and above them the names of the days.
+fn calendar(alloc: Global, diary: Builder) -> Result<Table, AllocError> {
+    let by_day = diary.index(alloc)?.column(alloc, 0)?.transpose(alloc)?;
+    let mut weeks = by_day.hide().name(None).build(alloc)?;
+    weeks.with(alloc, Split::column(7).concat().retain())?;
+    let days = builder_of(alloc, "row\tMon\tTue\tWed\tThu\tFri\tSat\tSun")?;
+    let mut calendar = days.build(alloc)?;
+    calendar.with(alloc, Concat::vertical(alloc, weeks))?;
+    Ok(calendar)
 }
 
 /// A text between colons.
@@ -245,15 +296,25 @@ fn written(alloc: Global, calls: &str, mut table: Table) -> Result<Table, AllocE
     Ok(table)
 }
 
+/// Whether the table that calls make of records has the picture behind them.
+fn is_drawn(alloc: Global, case: &str) -> Result<bool, AllocError> {
+    let (given, lines) = case.split_once("\n=\n").unwrap_or(("", ""));
+    let (calls, records) = given.split_once('\n').unwrap_or(("", ""));
+    let table = made(alloc, calls, records)?;
+    let drawn = picture(alloc, table.get_records(), table.get_config())?;
+    Ok(has_lines(drawn.as_str(), lines))
+}
+
 #[test]
 fn are_drawn_as_in_the_original(rt: HostRuntime) -> Result<(), Fail> {
-    let alloc = rt.alloc();
     for case in ORIGINALS.split("\n\n") {
-        let (given, lines) = case.split_once("\n=\n").unwrap_or(("", ""));
-        let (calls, records) = given.split_once('\n').unwrap_or(("", ""));
-        let table = made(alloc, calls, records)?;
-        let drawn = picture(alloc, table.get_records(), table.get_config())?;
-        assert!(rt; has_lines(drawn.as_str(), lines), "{case}");
+        assert!(rt; is_drawn(rt.alloc(), case)?, "{case}");
     }
+    Ok(())
+}
+
+#[test]
+fn a_diary_is_drawn_as_a_calendar(rt: HostRuntime) -> Result<(), Fail> {
+    assert!(rt; is_drawn(rt.alloc(), CALENDAR)?);
     Ok(())
 }
