@@ -125,29 +125,29 @@ pub(crate) fn make(
 /// Merges two cells, n times in one row.
 fn in_row(
     alloc: Global,
-    spans: &mut SpannedConfig,
+    cfg: &mut SpannedConfig,
     row: usize,
     many: usize,
 ) -> Result<(), AllocError> {
     for k in 0..many {
-        spans.set_column_span(alloc, Position::new(row, k.saturating_mul(2)), 2)?;
+        cfg.set_column_span(alloc, Position::new(row, k.saturating_mul(2)), 2)?;
     }
     Ok(())
 }
 
 /// Merges two cells of a column, at n columns side by side.
-fn tall(alloc: Global, spans: &mut SpannedConfig, many: usize) -> Result<(), AllocError> {
+fn tall(alloc: Global, cfg: &mut SpannedConfig, many: usize) -> Result<(), AllocError> {
     for j in 0..many {
-        spans.set_row_span(alloc, Position::new(0, j), 2)?;
+        cfg.set_row_span(alloc, Position::new(0, j), 2)?;
     }
     Ok(())
 }
 
 /// Merges a hundred cells of a column, at n columns, each a row below the last one.
-fn staggered(alloc: Global, spans: &mut SpannedConfig, many: usize) -> Result<(), AllocError> {
+fn staggered(alloc: Global, cfg: &mut SpannedConfig, many: usize) -> Result<(), AllocError> {
     for i in 0..HEIGHT {
         for j in (i..many).step_by(HEIGHT) {
-            spans.set_row_span(alloc, Position::new(i, j), HEIGHT)?;
+            cfg.set_row_span(alloc, Position::new(i, j), HEIGHT)?;
         }
     }
     Ok(())
@@ -156,7 +156,7 @@ fn staggered(alloc: Global, spans: &mut SpannedConfig, many: usize) -> Result<()
 /// Sets a width in the first row, at each column of a range that is a multiple of a step.
 fn widen(
     alloc: Global,
-    spans: &mut SpannedConfig,
+    cfg: &mut SpannedConfig,
     columns: usize,
     step: usize,
     width: usize,
@@ -164,7 +164,7 @@ fn widen(
     requires { 1 ≤ step }
 {
     for j in (0..columns).step_by(step) {
-        spans.set_column_span(alloc, Position::new(0, j), width)?;
+        cfg.set_column_span(alloc, Position::new(0, j), width)?;
     }
     Ok(())
 }

@@ -199,7 +199,7 @@ where
 fn write_lines<'a, W, R>(
     pen: &mut Pen<'_, W>,
     records: &'a R,
-    spans: &SpannedConfig,
+    cfg: &SpannedConfig,
     sheet: &Sheet<'_>,
     band: &mut Band<'a>,
 )
@@ -208,22 +208,22 @@ where
     R: Records + ExactRecords + PeekableRecords,
     R::Cell: CellText,
     requires well { R.is_well_formed records.now }
-    requires sheet { IsSheet (map_grid R.Cell.text_of (R.grid records.now)) spans.now sheet.now }
+    requires sheet { IsSheet (map_grid R.Cell.text_of (R.grid records.now)) cfg.now sheet.now }
     requires room { HasRoom (R.grid records.now).columns band.old }
     requires next { band.old.next ≡ 0 }
     requires high { 0 < (R.grid records.now).rows }
     requires wide { 0 < (R.grid records.now).columns }
-    ensures { Draws W.contents pen.old pen.new (drawn_picture sheet.now (map_grid R.Cell.text_of (R.grid records.now)) spans.now) }
+    ensures { Draws W.contents pen.old pen.new (drawn_picture sheet.now (map_grid R.Cell.text_of (R.grid records.now)) cfg.now) }
 {
     clear(&mut band.above);
     for i in 0..sheet.rows {
-        write_row(pen, records, spans, sheet, i, band);
+        write_row(pen, records, cfg, sheet, i, band);
         if pen.has_failed() {
             return;
         }
     }
     clear(&mut band.here);
-    let is_unmerged = spans.rectangles().is_empty();
+    let is_unmerged = cfg.rectangles().is_empty();
     write_border(
         pen,
         sheet,
@@ -239,7 +239,7 @@ where
 fn write_row<'a, W, R>(
     pen: &mut Pen<'_, W>,
     records: &'a R,
-    spans: &SpannedConfig,
+    cfg: &SpannedConfig,
     sheet: &Sheet<'_>,
     i: usize,
     band: &mut Band<'a>,
@@ -249,15 +249,15 @@ where
     R: Records + ExactRecords + PeekableRecords,
     R::Cell: CellText,
     requires well { R.is_well_formed records.now }
-    requires sheet { IsSheet (map_grid R.Cell.text_of (R.grid records.now)) spans.now sheet.now }
+    requires sheet { IsSheet (map_grid R.Cell.text_of (R.grid records.now)) cfg.now sheet.now }
     requires row { i < (R.grid records.now).rows }
     requires wide { 0 < (R.grid records.now).columns }
-    requires band { IsBand (plan_on sheet.now (map_grid R.Cell.text_of (R.grid records.now)) spans.now) i band.old }
-    ensures band { IsBand (plan_on sheet.now (map_grid R.Cell.text_of (R.grid records.now)) spans.now) (i + 1) band.new }
-    ensures draws { Draws W.contents pen.old pen.new (drawn_row sheet.now (map_grid R.Cell.text_of (R.grid records.now)) spans.now i) }
+    requires band { IsBand (plan_on sheet.now (map_grid R.Cell.text_of (R.grid records.now)) cfg.now) i band.old }
+    ensures band { IsBand (plan_on sheet.now (map_grid R.Cell.text_of (R.grid records.now)) cfg.now) (i + 1) band.new }
+    ensures draws { Draws W.contents pen.old pen.new (drawn_row sheet.now (map_grid R.Cell.text_of (R.grid records.now)) cfg.now i) }
 {
-    band.next = write_owners(records, spans, band.next, i, &band.above, &mut band.here);
-    let is_unmerged = are_unmerged(spans, &band.above, &band.here, i);
+    band.next = write_owners(records, cfg, band.next, i, &band.above, &mut band.here);
+    let is_unmerged = are_unmerged(cfg, &band.above, &band.here, i);
     write_border(
         pen,
         sheet,

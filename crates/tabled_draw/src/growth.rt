@@ -19,7 +19,7 @@ use tabled_grid::records::{Axis, CellText, ExactRecords, PeekableRecords, Record
 pub(crate) fn grow_all<R>(
     alloc: Global,
     records: &R,
-    spans: &SpannedConfig,
+    cfg: &SpannedConfig,
     style: &Style,
     axis: Axis,
     sizes: &mut Vec<usize>,
@@ -28,12 +28,12 @@ where
     R: Records + ExactRecords + PeekableRecords,
     R::Cell: CellText,
     requires well { R.is_well_formed records.now }
-    requires fits { Fits spans.now (R.grid records.now).rows (R.grid records.now).columns }
+    requires fits { Fits cfg.now (R.grid records.now).rows (R.grid records.now).columns }
     requires long { length sizes.old.items ≡ count_along axis (R.grid records.now) }
     ensures long { OnOk result (length sizes.new.items ≡ count_along axis (R.grid records.now)) }
-    ensures grown { OnOk result (sizes.new.items ≡ grown axis style.now (map_grid R.Cell.text_of (R.grid records.now)) (rectangles spans.now) sizes.old.items) }
+    ensures grown { OnOk result (sizes.new.items ≡ grown axis style.now (map_grid R.Cell.text_of (R.grid records.now)) (rectangles cfg.now) sizes.old.items) }
 {
-    let rectangles = put_in_order(alloc, spans.rectangles(), axis)?;
+    let rectangles = put_in_order(alloc, cfg.rectangles(), axis)?;
     let order = rectangles.as_slice();
     let lines = lines_around(axis, style);
     for k in 0..order.len() {

@@ -37,15 +37,15 @@ pub(crate) struct Layout {
 pub(crate) fn layout_of<R>(
     alloc: Global,
     records: &R,
-    spans: &SpannedConfig,
+    cfg: &SpannedConfig,
     style: &Style,
 ) -> Result<Layout, AllocError>
 where
     R: Records + ExactRecords + PeekableRecords,
     R::Cell: CellText,
     requires well { R.is_well_formed records.now }
-    requires fits { Fits spans.now (R.grid records.now).rows (R.grid records.now).columns }
-    ensures { IfOk result (λ layout. IsLayout (plan_of style.now (map_grid R.Cell.text_of (R.grid records.now)) (rectangles spans.now)) layout) }
+    requires fits { Fits cfg.now (R.grid records.now).rows (R.grid records.now).columns }
+    ensures { IfOk result (λ layout. IsLayout (plan_of style.now (map_grid R.Cell.text_of (R.grid records.now)) (rectangles cfg.now)) layout) }
 {
     let columns = records.count_columns();
     let mut above = owner_row(alloc, columns)?;
@@ -54,14 +54,14 @@ where
     let mut heights = vec![in alloc; 1; records.count_rows()]?;
     raise_all(
         records,
-        spans,
+        cfg,
         &mut above,
         &mut here,
         &mut widths,
         &mut heights,
     );
-    grow_all(alloc, records, spans, style, Axis::Columns, &mut widths)?;
-    grow_all(alloc, records, spans, style, Axis::Rows, &mut heights)?;
+    grow_all(alloc, records, cfg, style, Axis::Columns, &mut widths)?;
+    grow_all(alloc, records, cfg, style, Axis::Rows, &mut heights)?;
     let edges = edges(alloc, style.columns, &widths)?;
     Ok(Layout {
         widths,
@@ -75,7 +75,7 @@ where
 /// Raises sizes, which are the least ones, to what the texts ask that are seen in one row, or in one column.
 fn raise_all<R>(
     records: &R,
-    spans: &SpannedConfig,
+    cfg: &SpannedConfig,
     above: &mut Vec<Owner>,
     here: &mut Vec<Owner>,
     widths: &mut Vec<usize>,
@@ -85,21 +85,21 @@ where
     R: Records + ExactRecords + PeekableRecords,
     R::Cell: CellText,
     requires well { R.is_well_formed records.now }
-    requires fits { Fits spans.now (R.grid records.now).rows (R.grid records.now).columns }
+    requires fits { Fits cfg.now (R.grid records.now).rows (R.grid records.now).columns }
     requires above { length above.old.items ≡ (R.grid records.now).columns + 2 }
     requires here { length here.old.items ≡ (R.grid records.now).columns + 2 }
-    requires widths { Measured Columns (map_grid R.Cell.text_of (R.grid records.now)) (rectangles spans.now) 0 0 widths.old.items }
-    requires heights { Measured Rows (map_grid R.Cell.text_of (R.grid records.now)) (rectangles spans.now) 0 0 heights.old.items }
+    requires widths { Measured Columns (map_grid R.Cell.text_of (R.grid records.now)) (rectangles cfg.now) 0 0 widths.old.items }
+    requires heights { Measured Rows (map_grid R.Cell.text_of (R.grid records.now)) (rectangles cfg.now) 0 0 heights.old.items }
     ensures above { length above.new.items ≡ (R.grid records.now).columns + 2 }
     ensures here { length here.new.items ≡ (R.grid records.now).columns + 2 }
-    ensures widths { widths.new.items ≡ own_sizes Columns (map_grid R.Cell.text_of (R.grid records.now)) (rectangles spans.now) }
-    ensures heights { heights.new.items ≡ own_sizes Rows (map_grid R.Cell.text_of (R.grid records.now)) (rectangles spans.now) }
+    ensures widths { widths.new.items ≡ own_sizes Columns (map_grid R.Cell.text_of (R.grid records.now)) (rectangles cfg.now) }
+    ensures heights { heights.new.items ≡ own_sizes Rows (map_grid R.Cell.text_of (R.grid records.now)) (rectangles cfg.now) }
 {
     clear(above);
     let mut next = 0;
     for i in 0..records.count_rows() {
-        next = write_owners(records, spans, next, i, above, here);
-        raise_row(records, spans, i, here, widths, heights);
+        next = write_owners(records, cfg, next, i, above, here);
+        raise_row(records, cfg, i, here, widths, heights);
         mem::swap(above, here);
     }
 }
@@ -107,7 +107,7 @@ where
 /// Raises sizes to what the texts of a row ask.
 fn raise_row<R>(
     records: &R,
-    spans: &SpannedConfig,
+    cfg: &SpannedConfig,
     i: usize,
     here: &Vec<Owner>,
     widths: &mut Vec<usize>,
@@ -118,11 +118,11 @@ where
     R::Cell: CellText,
     requires well { R.is_well_formed records.now }
     requires row { i < (R.grid records.now).rows }
-    requires here { IsOwnerRow (R.grid records.now).rows (R.grid records.now).columns (rectangles spans.now) (i + 1) here.now.items }
-    requires widths { Measured Columns (map_grid R.Cell.text_of (R.grid records.now)) (rectangles spans.now) i 0 widths.old.items }
-    requires heights { Measured Rows (map_grid R.Cell.text_of (R.grid records.now)) (rectangles spans.now) i 0 heights.old.items }
-    ensures widths { Measured Columns (map_grid R.Cell.text_of (R.grid records.now)) (rectangles spans.now) (i + 1) 0 widths.new.items }
-    ensures heights { Measured Rows (map_grid R.Cell.text_of (R.grid records.now)) (rectangles spans.now) (i + 1) 0 heights.new.items }
+    requires here { IsOwnerRow (R.grid records.now).rows (R.grid records.now).columns (rectangles cfg.now) (i + 1) here.now.items }
+    requires widths { Measured Columns (map_grid R.Cell.text_of (R.grid records.now)) (rectangles cfg.now) i 0 widths.old.items }
+    requires heights { Measured Rows (map_grid R.Cell.text_of (R.grid records.now)) (rectangles cfg.now) i 0 heights.old.items }
+    ensures widths { Measured Columns (map_grid R.Cell.text_of (R.grid records.now)) (rectangles cfg.now) (i + 1) 0 widths.new.items }
+    ensures heights { Measured Rows (map_grid R.Cell.text_of (R.grid records.now)) (rectangles cfg.now) (i + 1) 0 heights.new.items }
 {
     for j in 0..records.count_columns() {
         let pos = Position { row: i, col: j };

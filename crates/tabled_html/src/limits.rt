@@ -22,10 +22,10 @@ pub(crate) fn spans_written(
 }
 
 /// The map without the merged cells that HTML can't say.
-fn within_limits(spans: SpannedConfig) -> SpannedConfig
-    ensures { result ≡ keep_within_limits spans }
+fn within_limits(cfg: SpannedConfig) -> SpannedConfig
+    ensures { result ≡ keep_within_limits cfg }
 {
-    let mut anchors = spans.into_rectangles();
+    let mut anchors = cfg.into_rectangles();
     drop_past_limits(&mut anchors);
     SpannedConfig::from_rectangles(anchors)
 }

@@ -32,7 +32,7 @@ fn write_place<W, R>(
     pen: &mut Pen<'_, W>,
     records: &R,
     page: &Page<'_>,
-    spans: &SpannedConfig,
+    cfg: &SpannedConfig,
     ends: &mut [usize],
     pos: Position,
 )
@@ -43,15 +43,15 @@ where
     requires well { R.is_well_formed records.now }
     requires inside { IsInside (R.grid records.now) pos }
     requires numbered { (R.grid records.now).rows < 2 ^ 64 }
-    requires fits { Fits spans.now (R.grid records.now).rows (R.grid records.now).columns }
-    requires ends { AreEnds spans.now (R.grid records.now).rows (R.grid records.now).columns pos.row pos.col ends.old }
-    ensures sent { Sends W.contents pen.old pen.new (flat_map cell_bytes (begun_at (map_grid R.Cell.text_of (R.grid records.now)) spans.now page.now pos)) }
-    ensures ends { AreEnds spans.now (R.grid records.now).rows (R.grid records.now).columns pos.row (pos.col + 1) ends.new }
+    requires fits { Fits cfg.now (R.grid records.now).rows (R.grid records.now).columns }
+    requires ends { AreEnds cfg.now (R.grid records.now).rows (R.grid records.now).columns pos.row pos.col ends.old }
+    ensures sent { Sends W.contents pen.old pen.new (flat_map cell_bytes (begun_at (map_grid R.Cell.text_of (R.grid records.now)) cfg.now page.now pos)) }
+    ensures ends { AreEnds cfg.now (R.grid records.now).rows (R.grid records.now).columns pos.row (pos.col + 1) ends.new }
 {
     if pos.row < ends[pos.col] {
         return;
     }
-    let size = spans.size(pos);
+    let size = cfg.size(pos);
     end_at(ends, pos.col, size.width, pos.row + size.height);
     write_cell(
         pen,
@@ -67,7 +67,7 @@ fn write_row<W, R>(
     pen: &mut Pen<'_, W>,
     records: &R,
     page: &Page<'_>,
-    spans: &SpannedConfig,
+    cfg: &SpannedConfig,
     ends: &mut [usize],
     i: usize,
 )
@@ -78,14 +78,14 @@ where
     requires well { R.is_well_formed records.now }
     requires row { i < (R.grid records.now).rows }
     requires numbered { (R.grid records.now).rows < 2 ^ 64 }
-    requires fits { Fits spans.now (R.grid records.now).rows (R.grid records.now).columns }
-    requires ends { AreEnds spans.now (R.grid records.now).rows (R.grid records.now).columns i 0 ends.old }
-    ensures sent { Sends W.contents pen.old pen.new (row_bytes (row_of (map_grid R.Cell.text_of (R.grid records.now)) spans.now page.now i)) }
-    ensures ends { AreEnds spans.now (R.grid records.now).rows (R.grid records.now).columns (i + 1) 0 ends.new }
+    requires fits { Fits cfg.now (R.grid records.now).rows (R.grid records.now).columns }
+    requires ends { AreEnds cfg.now (R.grid records.now).rows (R.grid records.now).columns i 0 ends.old }
+    ensures sent { Sends W.contents pen.old pen.new (row_bytes (row_of (map_grid R.Cell.text_of (R.grid records.now)) cfg.now page.now i)) }
+    ensures ends { AreEnds cfg.now (R.grid records.now).rows (R.grid records.now).columns (i + 1) 0 ends.new }
 {
     pen.send(b"<tr>");
     for j in 0..records.count_columns() {
-        write_place(pen, records, page, spans, ends, Position { row: i, col: j });
+        write_place(pen, records, page, cfg, ends, Position { row: i, col: j });
     }
     pen.send(b"</tr>\n");
 }
@@ -95,7 +95,7 @@ fn write_rows<W, R>(
     pen: &mut Pen<'_, W>,
     records: &R,
     page: &Page<'_>,
-    spans: &SpannedConfig,
+    cfg: &SpannedConfig,
     ends: &mut [usize],
     first: usize,
     count: usize,
@@ -107,13 +107,13 @@ where
     requires well { R.is_well_formed records.now }
     requires rows { first + count ≤ (R.grid records.now).rows }
     requires numbered { (R.grid records.now).rows < 2 ^ 64 }
-    requires fits { Fits spans.now (R.grid records.now).rows (R.grid records.now).columns }
-    requires ends { AreEnds spans.now (R.grid records.now).rows (R.grid records.now).columns first 0 ends.old }
-    ensures sent { Sends W.contents pen.old pen.new (flat_map row_bytes (rows_of (map_grid R.Cell.text_of (R.grid records.now)) spans.now page.now first count)) }
-    ensures ends { AreEnds spans.now (R.grid records.now).rows (R.grid records.now).columns (first + count) 0 ends.new }
+    requires fits { Fits cfg.now (R.grid records.now).rows (R.grid records.now).columns }
+    requires ends { AreEnds cfg.now (R.grid records.now).rows (R.grid records.now).columns first 0 ends.old }
+    ensures sent { Sends W.contents pen.old pen.new (flat_map row_bytes (rows_of (map_grid R.Cell.text_of (R.grid records.now)) cfg.now page.now first count)) }
+    ensures ends { AreEnds cfg.now (R.grid records.now).rows (R.grid records.now).columns (first + count) 0 ends.new }
 {
     for k in 0..count {
-        write_row(pen, records, page, spans, ends, first + k);
+        write_row(pen, records, page, cfg, ends, first + k);
     }
 }
 
@@ -144,7 +144,7 @@ fn write_group<W, R>(
     pen: &mut Pen<'_, W>,
     records: &R,
     page: &Page<'_>,
-    spans: &SpannedConfig,
+    cfg: &SpannedConfig,
     ends: &mut [usize],
     is_head: bool,
     first: usize,
@@ -157,22 +157,22 @@ where
     requires well { R.is_well_formed records.now }
     requires rows { first + count ≤ (R.grid records.now).rows }
     requires numbered { (R.grid records.now).rows < 2 ^ 64 }
-    requires fits { Fits spans.now (R.grid records.now).rows (R.grid records.now).columns }
-    requires ends { AreEnds spans.now (R.grid records.now).rows (R.grid records.now).columns first 0 ends.old }
-    ensures sent { Sends W.contents pen.old pen.new (group_bytes (group is_head (rows_of (map_grid R.Cell.text_of (R.grid records.now)) spans.now page.now first count))) }
-    ensures ends { AreEnds spans.now (R.grid records.now).rows (R.grid records.now).columns (first + count) 0 ends.new }
+    requires fits { Fits cfg.now (R.grid records.now).rows (R.grid records.now).columns }
+    requires ends { AreEnds cfg.now (R.grid records.now).rows (R.grid records.now).columns first 0 ends.old }
+    ensures sent { Sends W.contents pen.old pen.new (group_bytes (group is_head (rows_of (map_grid R.Cell.text_of (R.grid records.now)) cfg.now page.now first count))) }
+    ensures ends { AreEnds cfg.now (R.grid records.now).rows (R.grid records.now).columns (first + count) 0 ends.new }
 {
     write_start(pen, is_head);
-    write_rows(pen, records, page, spans, ends, first, count);
+    write_rows(pen, records, page, cfg, ends, first, count);
     write_end(pen, is_head);
 }
 
 /// Says whether the header is the head of the table.
-fn has_head(spans: &SpannedConfig, rows: usize, header: usize) -> bool
-    ensures has { result ≡ has_head rows spans.now header }
+fn has_head(cfg: &SpannedConfig, rows: usize, header: usize) -> bool
+    ensures has { result ≡ has_head rows cfg.now header }
     ensures part { IsTrue result → header ≤ rows }
 {
-    header > 0 && header <= rows && !spans.crosses(Axis::Rows, header)
+    header > 0 && header <= rows && !cfg.crosses(Axis::Rows, header)
 }
 
 /// Writes all rows.
@@ -180,7 +180,7 @@ pub(crate) fn write_groups<W, R>(
     pen: &mut Pen<'_, W>,
     records: &R,
     page: &Page<'_>,
-    spans: &SpannedConfig,
+    cfg: &SpannedConfig,
     ends: &mut [usize],
 )
 where
@@ -188,25 +188,16 @@ where
     R: Records + ExactRecords + PeekableRecords,
     R::Cell: CellText,
     requires well { R.is_well_formed records.now }
-    requires fits { Fits spans.now (R.grid records.now).rows (R.grid records.now).columns }
-    requires ends { AreEnds spans.now (R.grid records.now).rows (R.grid records.now).columns 0 0 ends.old }
-    ensures { Sends W.contents pen.old pen.new (flat_map group_bytes (groups_of (map_grid R.Cell.text_of (R.grid records.now)) spans.now page.now)) }
+    requires fits { Fits cfg.now (R.grid records.now).rows (R.grid records.now).columns }
+    requires ends { AreEnds cfg.now (R.grid records.now).rows (R.grid records.now).columns 0 0 ends.old }
+    ensures { Sends W.contents pen.old pen.new (flat_map group_bytes (groups_of (map_grid R.Cell.text_of (R.grid records.now)) cfg.now page.now)) }
 {
     let rows = records.count_rows();
     let header = page.header_rows();
-    if has_head(spans, rows, header) {
-        write_group(pen, records, page, spans, ends, true, 0, header);
-        write_group(
-            pen,
-            records,
-            page,
-            spans,
-            ends,
-            false,
-            header,
-            rows - header,
-        );
+    if has_head(cfg, rows, header) {
+        write_group(pen, records, page, cfg, ends, true, 0, header);
+        write_group(pen, records, page, cfg, ends, false, header, rows - header);
         return;
     }
-    write_group(pen, records, page, spans, ends, false, 0, rows);
+    write_group(pen, records, page, cfg, ends, false, 0, rows);
 }

@@ -74,7 +74,7 @@ fn write_table<W, R>(
     pen: &mut Pen<'_, W>,
     records: &R,
     page: &Page<'_>,
-    spans: &SpannedConfig,
+    cfg: &SpannedConfig,
     ends: &mut [usize],
 )
 where
@@ -82,15 +82,15 @@ where
     R: Records + ExactRecords + PeekableRecords,
     R::Cell: CellText,
     requires well { R.is_well_formed records.now }
-    requires fits { Fits spans.now (R.grid records.now).rows (R.grid records.now).columns }
-    requires ends { AreEnds spans.now (R.grid records.now).rows (R.grid records.now).columns 0 0 ends.old }
-    ensures { Sends W.contents pen.old pen.new (table_bytes (table (map_grid R.Cell.text_of (R.grid records.now)) spans.now page.now)) }
+    requires fits { Fits cfg.now (R.grid records.now).rows (R.grid records.now).columns }
+    requires ends { AreEnds cfg.now (R.grid records.now).rows (R.grid records.now).columns 0 0 ends.old }
+    ensures { Sends W.contents pen.old pen.new (table_bytes (table (map_grid R.Cell.text_of (R.grid records.now)) cfg.now page.now)) }
 {
     pen.send(b"<table");
     write_class(pen, page.class_text());
     pen.send(b">\n");
     write_caption(pen, page.caption_text());
-    write_groups(pen, records, page, spans, ends);
+    write_groups(pen, records, page, cfg, ends);
     pen.send(b"</table>\n");
 }
 
@@ -115,7 +115,7 @@ fn write_page<W, R>(
     pen: &mut Pen<'_, W>,
     records: &R,
     page: &Page<'_>,
-    spans: &SpannedConfig,
+    cfg: &SpannedConfig,
     ends: &mut [usize],
 )
 where
@@ -123,17 +123,17 @@ where
     R: Records + ExactRecords + PeekableRecords,
     R::Cell: CellText,
     requires well { R.is_well_formed records.now }
-    requires fits { Fits spans.now (R.grid records.now).rows (R.grid records.now).columns }
-    requires ends { AreEnds spans.now (R.grid records.now).rows (R.grid records.now).columns 0 0 ends.old }
-    ensures { Sends W.contents pen.old pen.new (framed page.now.is_whole (table_bytes (table (map_grid R.Cell.text_of (R.grid records.now)) spans.now page.now))) }
+    requires fits { Fits cfg.now (R.grid records.now).rows (R.grid records.now).columns }
+    requires ends { AreEnds cfg.now (R.grid records.now).rows (R.grid records.now).columns 0 0 ends.old }
+    ensures { Sends W.contents pen.old pen.new (framed page.now.is_whole (table_bytes (table (map_grid R.Cell.text_of (R.grid records.now)) cfg.now page.now))) }
 {
     if page.is_whole() {
         write_page_start(pen);
-        write_table(pen, records, page, spans, ends);
+        write_table(pen, records, page, cfg, ends);
         write_page_end(pen);
         return;
     }
-    write_table(pen, records, page, spans, ends);
+    write_table(pen, records, page, cfg, ends);
 }
 
 /// Writes a table (`r x c`) as HTML: a `table` with a `tr` for each row and a `td` for each cell where it begins, with

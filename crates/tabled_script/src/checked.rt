@@ -21,7 +21,7 @@ use tabled_steps::{Step, run};
 pub(crate) fn run_checked<E: Write>(
     alloc: Global,
     records: &mut Vec<Vec<LentText>>,
-    spans: &mut SpannedConfig,
+    cfg: &mut SpannedConfig,
     steps: Vec<Step>,
     numbers: &[usize],
     checks_steps: bool,
@@ -30,7 +30,7 @@ pub(crate) fn run_checked<E: Write>(
 ) -> Result<(), AllocError>
     requires { IsEven (grid_of (map_items records.old.items)) }
     ensures well { IsEven (grid_of (map_items records.new.items)) }
-    ensures state { OnOk result (state_in records.new.items spans.new ≡ after_all steps.items (state_in records.old.items spans.old)) }
+    ensures state { OnOk result (state_in records.new.items cfg.new ≡ after_all steps.items (state_in records.old.items cfg.old)) }
 {
     let script_end = lines.script_end();
     let mut numbers = numbers.iter();
@@ -38,12 +38,12 @@ pub(crate) fn run_checked<E: Write>(
         let number = numbers.next().copied().unwrap_or(0);
         let look = if checks_steps || script_end < number {
             let words = lines.step_words(number);
-            Look::at(alloc, &step, words, records, spans, checks_steps)?
+            Look::at(alloc, &step, words, records, cfg, checks_steps)?
         } else {
             Look::nowhere()
         };
-        run_one(alloc, records, spans, step)?;
-        if let Some(doubt) = look.doubt(alloc, records, spans)? {
+        run_one(alloc, records, cfg, step)?;
+        if let Some(doubt) = look.doubt(alloc, records, cfg)? {
             notes.tell(doubt_line(alloc, lines, number, doubt));
         }
     }
@@ -54,14 +54,14 @@ pub(crate) fn run_checked<E: Write>(
 fn run_one(
     alloc: Global,
     records: &mut Vec<Vec<LentText>>,
-    spans: &mut SpannedConfig,
+    cfg: &mut SpannedConfig,
     step: Step,
 ) -> Result<(), AllocError>
     requires { IsEven (grid_of (map_items records.old.items)) }
     ensures well { IsEven (grid_of (map_items records.new.items)) }
-    ensures state { OnOk result (state_in records.new.items spans.new ≡ after_all (step ∷ []) (state_in records.old.items spans.old)) }
+    ensures state { OnOk result (state_in records.new.items cfg.new ≡ after_all (step ∷ []) (state_in records.old.items cfg.old)) }
 {
-    match run(alloc, records, spans, vec![in alloc; step]?) {
+    match run(alloc, records, cfg, vec![in alloc; step]?) {
         Ok(()) => Ok(()),
         Err((_, error)) => Err(error),
     }
@@ -92,14 +92,14 @@ impl Look {
         step: &Step,
         words: &[String],
         records: &Vec<Vec<LentText>>,
-        spans: &SpannedConfig,
+        cfg: &SpannedConfig,
         looks_at_table: bool,
     ) -> Result<Self, AllocError>
         requires { IsEven (grid_of (map_items records.now.items)) }
     {
         let doubt = doubt_of(alloc, step, words, records)?;
         let table = if looks_at_table && doubt.is_none() {
-            Some(printed(alloc, records, spans)?)
+            Some(printed(alloc, records, cfg)?)
         } else {
             None
         };
@@ -111,7 +111,7 @@ impl Look {
         self,
         alloc: Global,
         records: &Vec<Vec<LentText>>,
-        spans: &SpannedConfig,
+        cfg: &SpannedConfig,
     ) -> Result<Option<Doubt>, AllocError>
         requires { IsEven (grid_of (map_items records.now.items)) }
     {
@@ -119,7 +119,7 @@ impl Look {
         let Some(table) = table else {
             return Ok(doubt);
         };
-        if printed(alloc, records, spans)? == table {
+        if printed(alloc, records, cfg)? == table {
             return Ok(Some(Doubt::ChangesNothing));
         }
         Ok(None)
@@ -154,12 +154,12 @@ fn doubt_of(
 fn printed(
     alloc: Global,
     records: &Vec<Vec<LentText>>,
-    spans: &SpannedConfig,
+    cfg: &SpannedConfig,
 ) -> Result<Vec<u8>, AllocError>
     requires { IsEven (grid_of (map_items records.now.items)) }
 {
     let mut lines = Vec::new(alloc);
-    match write_script(alloc, records, spans, &mut lines) {
+    match write_script(alloc, records, cfg, &mut lines) {
         Ok(()) => Ok(lines),
         Err(_) => Err(AllocError),
     }

@@ -59,29 +59,29 @@ impl Form {
         &self,
         alloc: Global,
         records: Vec<Vec<T>>,
-        spans: &SpannedConfig,
+        cfg: &SpannedConfig,
         writer: &mut W,
     ) -> Outcome
         requires { IsEven (grid_of (map_items records.items)) }
-        ensures { ComesOfState self.now (state_by T.text_of records.items spans.now) (W.contents writer.old) (W.contents writer.new) result }
+        ensures { ComesOfState self.now (state_by T.text_of records.items cfg.now) (W.contents writer.old) (W.contents writer.new) result }
     {
         match self {
-            Form::Script => write_script(alloc, &records, spans, writer),
+            Form::Script => write_script(alloc, &records, cfg, writer),
             Form::Picture(style, alignments) => {
                 let aligned = alignments.of_columns(alloc, &records)?;
-                write_picture(alloc, records, spans, *style, &aligned, writer)
+                write_picture(alloc, records, cfg, *style, &aligned, writer)
             }
             Form::NarrowPicture(width, style, alignments) => {
                 let aligned = alignments.of_columns(alloc, &records)?;
-                write_narrow_picture(alloc, &records, spans, *style, &aligned, *width, writer)
+                write_narrow_picture(alloc, &records, cfg, *style, &aligned, *width, writer)
             }
             Form::Markdown(alignments) => {
                 let aligned = alignments.of_columns(alloc, &records)?;
-                write_markdown(alloc, records, spans, &aligned, writer)
+                write_markdown(alloc, records, cfg, &aligned, writer)
             }
             Form::Csv(separator) => write_csv(alloc, &records, *separator, writer),
             Form::Json(layout, values) => write_json(alloc, &records, *layout, *values, writer),
-            Form::Html(page) => write_html(alloc, &records, spans, page, writer),
+            Form::Html(page) => write_html(alloc, &records, cfg, page, writer),
         }
     }
 }

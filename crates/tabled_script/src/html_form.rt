@@ -36,20 +36,20 @@ pub struct HtmlPage {
 pub(crate) fn write_html<T: CellText, W: Write>(
     alloc: Global,
     records: &Vec<Vec<T>>,
-    spans: &SpannedConfig,
+    cfg: &SpannedConfig,
     page: &HtmlPage,
     writer: &mut W,
 ) -> Outcome
     requires { IsEven (grid_of (map_items records.now.items)) }
     ensures written { OnOk result (
-        Appends (W.contents writer.old) (W.contents writer.new) (html (texts_by T.text_of records.now.items) spans.now (look_of page.now (texts_by T.text_of records.now.items)))) }
-    ensures shows { OnOk result (ShowsGrid page.now (texts_by T.text_of records.now.items) spans.now) }
+        Appends (W.contents writer.old) (W.contents writer.new) (html (texts_by T.text_of records.now.items) cfg.now (look_of page.now (texts_by T.text_of records.now.items)))) }
+    ensures shows { OnOk result (ShowsGrid page.now (texts_by T.text_of records.now.items) cfg.now) }
     ensures unwritten { IfErr result (OnlyFails (W.contents writer.old) (W.contents writer.new)) }
 {
     let alignments = page.alignments.of_columns(alloc, records)?;
     let alignments = html_alignments(alloc, &alignments)?;
     let look = look_with(page, &alignments);
-    match write_with(alloc, writer, records, spans, &look) {
+    match write_with(alloc, writer, records, cfg, &look) {
         Ok(()) => Ok(writer.flush()?),
         Err(WriteError::OutOfMemory) => Err(Unwritten::OutOfMemory),
         Err(WriteError::Failed(_)) => Err(Unwritten::Failed),

@@ -34,7 +34,7 @@ pub(crate) fn cut_to<R>(
     alloc: Global,
     records: &R,
     pieces: &Vec<Vec<String>>,
-    spans: &SpannedConfig,
+    cfg: &SpannedConfig,
     style: &Style,
     width: usize,
 ) -> Result<Vec<Vec<String>>, AllocError>
@@ -44,12 +44,12 @@ where
     requires well { R.is_well_formed records.now }
     requires even { IsEven (grid_of (map_items pieces.now.items)) }
     requires pieces { grid_of_texts (map_items pieces.now.items) ≡ at_widest_pieces (map_grid R.Cell.text_of (R.grid records.now)) }
-    ensures texts { IfOk result (λ texts. grid_of_texts (map_items texts.items) ≡ cut_to width style.now spans.now (map_grid R.Cell.text_of (R.grid records.now))) }
+    ensures texts { IfOk result (λ texts. grid_of_texts (map_items texts.items) ≡ cut_to width style.now cfg.now (map_grid R.Cell.text_of (R.grid records.now))) }
     ensures even { IfOk result (λ texts. IsEven (grid_of (map_items texts.items))) }
 {
-    let of_lines = column_widths(alloc, records, spans, style)?;
-    let of_words = word_widths(alloc, records, spans, style)?;
-    let of_pieces = column_widths(alloc, pieces, spans, style)?;
+    let of_lines = column_widths(alloc, records, cfg, style)?;
+    let of_words = word_widths(alloc, records, cfg, style)?;
+    let of_pieces = column_widths(alloc, pieces, cfg, style)?;
     let widths = limits(
         alloc,
         width,
@@ -58,7 +58,7 @@ where
         &of_words,
         &of_pieces,
     )?;
-    let kept = spans.fitting(alloc, records.count_rows(), records.count_columns())?;
+    let kept = cfg.fitting(alloc, records.count_rows(), records.count_columns())?;
     let columns = Columns {
         widths: &widths,
         lines: style.columns,
@@ -71,15 +71,15 @@ where
 fn word_widths<R>(
     alloc: Global,
     records: &R,
-    spans: &SpannedConfig,
+    cfg: &SpannedConfig,
     style: &Style,
 ) -> Result<Vec<usize>, AllocError>
 where
     R: Records + ExactRecords + PeekableRecords,
     R::Cell: CellText,
     requires { R.is_well_formed records.now }
-    ensures { IfOk result (λ widths. widths.items ≡ column_widths style.now (wrapped_by at_widest_word (map_grid R.Cell.text_of (R.grid records.now))) spans.now) }
+    ensures { IfOk result (λ widths. widths.items ≡ column_widths style.now (wrapped_by at_widest_word (map_grid R.Cell.text_of (R.grid records.now))) cfg.now) }
 {
     let words = wrapped_texts(alloc, records, &TextRoom::WidestWord)?;
-    column_widths(alloc, &words, spans, style)
+    column_widths(alloc, &words, cfg, style)
 }

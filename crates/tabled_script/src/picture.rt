@@ -24,18 +24,18 @@ use tabled_grid::records::{CellText, ExactRecords, PeekableRecords, Records};
 pub(crate) fn write_picture<T: CellText, W: Write>(
     alloc: Global,
     records: Vec<Vec<T>>,
-    spans: &SpannedConfig,
+    cfg: &SpannedConfig,
     style: Style,
     alignments: &[Alignment],
     writer: &mut W,
 ) -> Outcome
     requires { IsEven (grid_of (map_items records.items)) }
     ensures written { OnOk result (
-        Appends (W.contents writer.old) (W.contents writer.new) (drawn_with style alignments.now (texts_by T.text_of records.items) spans.now)) }
+        Appends (W.contents writer.old) (W.contents writer.new) (drawn_with style alignments.now (texts_by T.text_of records.items) cfg.now)) }
     ensures unwritten { IfErr result (OnlyFails (W.contents writer.old) (W.contents writer.new)) }
 {
     let look = Look::new(style).align(alignments);
-    let drawing = Drawing::with_look(alloc, &records, spans, &look)?;
+    let drawing = Drawing::with_look(alloc, &records, cfg, &look)?;
     write_drawing(drawing, writer)
 }
 
@@ -65,7 +65,7 @@ impl TooNarrow {
 pub(crate) fn write_narrow_picture<'a, R, W>(
     alloc: Global,
     records: &'a R,
-    spans: &SpannedConfig,
+    cfg: &SpannedConfig,
     style: Style,
     alignments: &'a [Alignment],
     width: usize,
@@ -77,25 +77,25 @@ where
     W: Write,
     requires { R.is_well_formed records.now }
     ensures written { OnOk result (
-        WritesNarrowPicture width style alignments.now (map_grid R.Cell.text_of (R.grid records.now)) spans.now (W.contents writer.old) (W.contents writer.new)) }
+        WritesNarrowPicture width style alignments.now (map_grid R.Cell.text_of (R.grid records.now)) cfg.now (W.contents writer.old) (W.contents writer.new)) }
     ensures unwritten { IfErr result (
-        Fails (IsTooNarrow width style spans.now (map_grid R.Cell.text_of (R.grid records.now))) (λ _. ⊥) (W.contents writer.old) (W.contents writer.new)) }
+        Fails (IsTooNarrow width style cfg.now (map_grid R.Cell.text_of (R.grid records.now))) (λ _. ⊥) (W.contents writer.old) (W.contents writer.new)) }
 {
     lines_take_the_width_of_their_picture();
-    let (whole, columns) = laid_out(alloc, records, spans, style, alignments)?;
+    let (whole, columns) = laid_out(alloc, records, cfg, style, alignments)?;
     if columns <= width {
         return write_drawing(whole, writer);
     }
     let pieces = at_widest_pieces(alloc, records)?;
-    let (least, takes) = laid_out(alloc, &pieces, spans, style, alignments)?;
+    let (least, takes) = laid_out(alloc, &pieces, cfg, style, alignments)?;
     if width < takes {
         return Err(Unwritten::TooNarrow(TooNarrow {
             asked: width,
             takes,
         }));
     }
-    let cut = cut_to(alloc, records, &pieces, spans, &style, width)?;
-    let (drawing, columns) = laid_out(alloc, &cut, spans, style, alignments)?;
+    let cut = cut_to(alloc, records, &pieces, cfg, &style, width)?;
+    let (drawing, columns) = laid_out(alloc, &cut, cfg, style, alignments)?;
     if columns <= width {
         return write_drawing(drawing, writer);
     }
@@ -106,7 +106,7 @@ where
 fn laid_out<'a, R>(
     alloc: Global,
     records: &'a R,
-    spans: &SpannedConfig,
+    cfg: &SpannedConfig,
     style: Style,
     alignments: &'a [Alignment],
 ) -> Result<(Drawing<'a, R>, usize), AllocError>
@@ -114,11 +114,11 @@ where
     R: Records + ExactRecords + PeekableRecords,
     R::Cell: CellText,
     requires { R.is_well_formed records.now }
-    ensures drawn { IfOk result (λ both. both.0 ≡ drawn_with style alignments.now (map_grid R.Cell.text_of (R.grid records.now)) spans.now) }
-    ensures width { IfOk result (λ both. both.1 ≡ picture_width style (map_grid R.Cell.text_of (R.grid records.now)) spans.now) }
+    ensures drawn { IfOk result (λ both. both.0 ≡ drawn_with style alignments.now (map_grid R.Cell.text_of (R.grid records.now)) cfg.now) }
+    ensures width { IfOk result (λ both. both.1 ≡ picture_width style (map_grid R.Cell.text_of (R.grid records.now)) cfg.now) }
 {
     let look = Look::new(style).align(alignments);
-    Drawing::with_width(alloc, records, spans, &look)
+    Drawing::with_width(alloc, records, cfg, &look)
 }
 
 /// Writes a table as Markdown, and flushes the writer. All memory is asked for before the first byte: refused, nothing
@@ -126,16 +126,16 @@ where
 pub(crate) fn write_markdown<T: CellText, W: Write>(
     alloc: Global,
     records: Vec<Vec<T>>,
-    spans: &SpannedConfig,
+    cfg: &SpannedConfig,
     alignments: &[Alignment],
     writer: &mut W,
 ) -> Outcome
     requires { IsEven (grid_of (map_items records.items)) }
     ensures written { OnOk result (
-        Appends (W.contents writer.old) (W.contents writer.new) (markdown alignments.now (texts_by T.text_of records.items) spans.now)) }
+        Appends (W.contents writer.old) (W.contents writer.new) (markdown alignments.now (texts_by T.text_of records.items) cfg.now)) }
     ensures unwritten { IfErr result (OnlyFails (W.contents writer.old) (W.contents writer.new)) }
 {
-    let markdown = Markdown::new(alloc, &records, spans, alignments)?;
+    let markdown = Markdown::new(alloc, &records, cfg, alignments)?;
     markdown.write(writer)?;
     writer.flush()?;
     Ok(())

@@ -26,16 +26,16 @@ use tabled_held::{Held, Pen};
 pub(crate) fn write_script<T: KnownWord, W: Write>(
     alloc: Global,
     records: &Vec<Vec<T>>,
-    spans: &SpannedConfig,
+    cfg: &SpannedConfig,
     writer: &mut W,
 ) -> Outcome
     requires { IsEven (grid_of (map_items records.now.items)) }
-    ensures written { OnOk result (Appends (W.contents writer.old) (W.contents writer.new) (print (state_by T.text_of records.now.items spans.now))) }
-    ensures known { OnOk result (IsTableIfFitting (state_by T.text_of records.now.items spans.now)) }
+    ensures written { OnOk result (Appends (W.contents writer.old) (W.contents writer.new) (print (state_by T.text_of records.now.items cfg.now))) }
+    ensures known { OnOk result (IsTableIfFitting (state_by T.text_of records.now.items cfg.now)) }
     ensures unwritten { IfErr result (OnlyFails (W.contents writer.old) (W.contents writer.new)) }
 {
     let held = Held::new(alloc)?;
-    send_lines(writer, held, records, spans)?;
+    send_lines(writer, held, records, cfg)?;
     writer.flush()?;
     Ok(())
 }
@@ -45,16 +45,16 @@ fn send_lines<T: KnownWord, W: Write>(
     writer: &mut W,
     held: Held,
     records: &Vec<Vec<T>>,
-    spans: &SpannedConfig,
+    cfg: &SpannedConfig,
 ) -> io::Result<()>
     requires even { IsEven (grid_of (map_items records.now.items)) }
     requires unused { held.bytes ≡ [] }
-    ensures written { OnOk result (Appends (W.contents writer.old) (W.contents writer.new) (print (state_by T.text_of records.now.items spans.now))) }
-    ensures known { OnOk result (IsTableIfFitting (state_by T.text_of records.now.items spans.now)) }
+    ensures written { OnOk result (Appends (W.contents writer.old) (W.contents writer.new) (print (state_by T.text_of records.now.items cfg.now))) }
+    ensures known { OnOk result (IsTableIfFitting (state_by T.text_of records.now.items cfg.now)) }
 {
     let mut pen = Pen::new(writer, held);
     write_table(&mut pen, records);
-    write_spans(&mut pen, spans);
+    write_spans(&mut pen, cfg);
     let (written, outcome) = pen.finish();
     // No effect: the proof reads here what the writer got.
     let _ = &*written;
@@ -99,10 +99,10 @@ fn write_row<T: KnownWord, W: Write>(pen: &mut Pen<'_, W>, texts: &[T])
 }
 
 /// Writes the lines of merged cells.
-fn write_spans<W: Write>(pen: &mut Pen<'_, W>, spans: &SpannedConfig)
-    ensures { Sends W.contents pen.old pen.new (flat_map span_line (rectangles spans.now)) }
+fn write_spans<W: Write>(pen: &mut Pen<'_, W>, cfg: &SpannedConfig)
+    ensures { Sends W.contents pen.old pen.new (flat_map span_line (rectangles cfg.now)) }
 {
-    for rectangle in spans.rectangles() {
+    for rectangle in cfg.rectangles() {
         let Rectangle { first, size } = *rectangle;
         let numbers = [first.row, first.col, size.height, size.width];
         write_numbers(pen, "span", &numbers);

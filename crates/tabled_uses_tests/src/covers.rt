@@ -10,11 +10,11 @@ use tabled_grid::config::{CoverMap, Position, Rectangle, Size, SpannedConfig};
 use tabled_testing::merged;
 
 /// Whether a cell is visible, and whether a rectangle covers it from the left, and from above.
-fn told(spans: &SpannedConfig, row: usize, col: usize) -> (bool, bool, bool) {
+fn told(cfg: &SpannedConfig, row: usize, col: usize) -> (bool, bool, bool) {
     let pos = Position::new(row, col);
-    let across = spans.is_cell_covered_by_column_span(pos);
-    let down = spans.is_cell_covered_by_row_span(pos);
-    (spans.is_cell_visible(pos), across, down)
+    let across = cfg.is_cell_covered_by_column_span(pos);
+    let down = cfg.is_cell_covered_by_row_span(pos);
+    (cfg.is_cell_visible(pos), across, down)
 }
 
 #[test]
@@ -84,7 +84,7 @@ type Anchor = (usize, usize, usize, usize);
 /// Sets the sizes of an anchor, which a map of hidden cells follows.
 fn follow(
     alloc: Global,
-    spans: &mut SpannedConfig,
+    cfg: &mut SpannedConfig,
     cover: &mut CoverMap,
     anchor: Anchor,
 ) -> Result<(), AllocError>
@@ -92,10 +92,10 @@ fn follow(
 {
     let (row, col, height, width) = anchor;
     let pos = Position::new(row, col);
-    let old_height = spans.get_row_span(pos).unwrap_or(1);
-    let old_width = spans.get_column_span(pos).unwrap_or(1);
-    spans.set_row_span(alloc, pos, height)?;
-    spans.set_column_span(alloc, pos, width)?;
+    let old_height = cfg.get_row_span(pos).unwrap_or(1);
+    let old_width = cfg.get_column_span(pos).unwrap_or(1);
+    cfg.set_row_span(alloc, pos, height)?;
+    cfg.set_column_span(alloc, pos, width)?;
     let old = Size {
         height: old_height,
         width: old_width,
@@ -105,13 +105,13 @@ fn follow(
 }
 
 /// Whether a map of 3 x 3 cells hides those that aren't visible.
-fn hides(cover: &CoverMap, spans: &SpannedConfig) -> bool
+fn hides(cover: &CoverMap, cfg: &SpannedConfig) -> bool
     requires block { cover.now.block ≡ rectangle (place 0 0) (sized 3 3) }
 {
     for row in 0..3 {
         for col in 0..3 {
             let cell = Position::new(row, col);
-            if cover.is_hidden(cell) == spans.is_cell_visible(cell) {
+            if cover.is_hidden(cell) == cfg.is_cell_visible(cell) {
                 return false;
             }
         }

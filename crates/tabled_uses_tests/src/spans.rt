@@ -9,9 +9,9 @@ use tabled_testing::{merged, push_merged};
 use tabled_uses::merged::{comes_apart, grows_by_one, has_room, is_merged_into};
 
 /// Whether merged cells are spelled so.
-fn is_spelled(alloc: Global, spans: &SpannedConfig, want: &str) -> Result<bool, AllocError> {
+fn is_spelled(alloc: Global, cfg: &SpannedConfig, want: &str) -> Result<bool, AllocError> {
     let mut words = String::new(alloc);
-    push_merged(alloc, &mut words, spans)?;
+    push_merged(alloc, &mut words, cfg)?;
     Ok(words.as_str() == want)
 }
 
@@ -24,15 +24,15 @@ enum Side {
 /// Sets a side of an anchor's rectangle, and answers its height and its width.
 fn set(
     alloc: Global,
-    spans: &mut SpannedConfig,
+    cfg: &mut SpannedConfig,
     pos: Position,
     side: Side,
 ) -> Result<(Option<usize>, Option<usize>), AllocError> {
     match side {
-        Height(height) => spans.set_row_span(alloc, pos, height)?,
-        Width(width) => spans.set_column_span(alloc, pos, width)?,
+        Height(height) => cfg.set_row_span(alloc, pos, height)?,
+        Width(width) => cfg.set_column_span(alloc, pos, width)?,
     }
-    Ok((spans.get_row_span(pos), spans.get_column_span(pos)))
+    Ok((cfg.get_row_span(pos), cfg.get_column_span(pos)))
 }
 
 #[test]
@@ -221,35 +221,35 @@ enum Call {
     CoverBlock,
 }
 
-fn make(alloc: Global, spans: &mut SpannedConfig, call: Call) -> Result<(), AllocError> {
+fn make(alloc: Global, cfg: &mut SpannedConfig, call: Call) -> Result<(), AllocError> {
     let pos = Position::new(1, 3);
     let size = Size {
         height: 2,
         width: 2,
     };
     match call {
-        Call::RowSpan => spans.set_row_span(alloc, pos, 2),
-        Call::ColumnSpan => spans.set_column_span(alloc, pos, 2),
-        Call::Sizes => spans.set_sizes(alloc, &[Rectangle { first: pos, size }]),
+        Call::RowSpan => cfg.set_row_span(alloc, pos, 2),
+        Call::ColumnSpan => cfg.set_column_span(alloc, pos, 2),
+        Call::Sizes => cfg.set_sizes(alloc, &[Rectangle { first: pos, size }]),
         Call::Copy => {
-            spans.copy(alloc)?;
+            cfg.copy(alloc)?;
             Ok(())
         }
         Call::Fitting => {
-            spans.fitting(alloc, 1, 2)?;
+            cfg.fitting(alloc, 1, 2)?;
             Ok(())
         }
-        Call::KeepFitting => spans.keep_fitting(alloc, 1, 2),
+        Call::KeepFitting => cfg.keep_fitting(alloc, 1, 2),
         Call::Widths => {
-            spans.get_column_spans(alloc)?;
+            cfg.get_column_spans(alloc)?;
             Ok(())
         }
         Call::Heights => {
-            spans.get_row_spans(alloc)?;
+            cfg.get_row_spans(alloc)?;
             Ok(())
         }
         Call::Cover => {
-            CoverMap::new(alloc, spans, 4, 4)?;
+            CoverMap::new(alloc, cfg, 4, 4)?;
             Ok(())
         }
         Call::CoverBlock => {
@@ -258,7 +258,7 @@ fn make(alloc: Global, spans: &mut SpannedConfig, call: Call) -> Result<(), Allo
                 width: 4,
             };
             let first = Position::new(1, 0);
-            CoverMap::of_block(alloc, spans, Rectangle { first, size })?;
+            CoverMap::of_block(alloc, cfg, Rectangle { first, size })?;
             Ok(())
         }
     }

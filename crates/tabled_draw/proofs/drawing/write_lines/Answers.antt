@@ -9,7 +9,7 @@ use Rattle.tabled_draw.proofs.drawing.write_lines.Goals as goal
 pub loop-i-init : goal.loop-i-init
 loop-i-init g c =
     let t = map_grid g.R.Cell.CellText.text_of (g.R.GridStore.grid c.args.records.now) in
-    let m = c.args.spans.now in
+    let m = c.args.cfg.now in
     let style = c.args.sheet.now.look.style in
     record {
       band = record {
@@ -27,26 +27,26 @@ loop-i-preserved g c =
     let t = map_grid g.R.Cell.CellText.text_of (g.R.GridStore.grid c.args.records.now) in
     record {
       band = c.write_row.ensures.band;
-      drawn = draws-as (more-rows (plan_on c.args.sheet.now t c.args.spans.now) c.args.sheet.now.look.alignments.now c.loop-i.i) (draws-then c.loop-i.invariant.drawn c.write_row.ensures.draws);
+      drawn = draws-as (more-rows (plan_on c.args.sheet.now t c.args.cfg.now) c.args.sheet.now.look.alignments.now c.loop-i.i) (draws-then c.loop-i.invariant.drawn c.write_row.ensures.draws);
     }
 
 pub returns-then-has_failed : goal.returns-then-has_failed
 returns-then-has_failed g c =
     let t = map_grid g.R.Cell.CellText.text_of (g.R.GridStore.grid c.args.records.now) in
-    let es = rectangles c.args.spans.now in
+    let es = rectangles c.args.cfg.now in
     let style = c.args.sheet.now.look.style in
     let aligns = c.args.sheet.now.look.alignments.now in
-    let plan = plan_on c.args.sheet.now t c.args.spans.now in
+    let plan = plan_on c.args.sheet.now t c.args.cfg.now in
     let rest = rest-of plan aligns (c.loop-i.i + 1) (omega (arith, c.loop-i-test.true, c.loop-i.auto.i-end, c.requires.sheet.rows)) c.requires.high c.requires.wide in
     draws-as rest.1 (draws-then (draws-as (more-rows plan aligns c.loop-i.i) (draws-then c.loop-i.invariant.drawn c.write_row.ensures.draws)) (draws-failed (sym c.has_failed.ensures ∙ c.if-has_failed.true) rest.0))
 
 pub write_border-requires-clause-inside : goal.write_border-requires-clause-inside
-write_border-requires-clause-inside g c = rw (c.loop-i.invariant.band.long, c.deref.ensures.value) (end-inside c.args.spans.now _ _ c.loop-i.i c.loop-i.band.above.items c.requires.sheet.fits c.loop-i.invariant.band.above)
+write_border-requires-clause-inside g c = rw (c.loop-i.invariant.band.long, c.deref.ensures.value) (end-inside c.args.cfg.now _ _ c.loop-i.i c.loop-i.band.above.items c.requires.sheet.fits c.loop-i.invariant.band.above)
 
 pub write_border-requires-clause-unmerged : goal.write_border-requires-clause-unmerged
 write_border-requires-clause-unmerged g c =
     let t = map_grid g.R.Cell.CellText.text_of (g.R.GridStore.grid c.args.records.now) in
-    let m = c.args.spans.now in
+    let m = c.args.cfg.now in
     let i : c.loop-i.i ≡ t.rows = omega (arith, c.loop-i-test.false, c.loop-i.auto.i-end, c.requires.sheet.rows) in
     let last : c.args.sheet.now.rows ≡ c.loop-i.i = c.requires.sheet.rows ∙ sym i in
     let over : IsOwnerRow t.rows t.columns (rectangles m) c.loop-i.i c.deref.result.now = rw c.deref.ensures.value c.loop-i.invariant.band.above in
@@ -60,13 +60,13 @@ returns g c =
     let rests = c.loop-i.band.rests.items in
     let sheet = c.args.sheet.now in
     let t = map_grid g.R.Cell.CellText.text_of (g.R.GridStore.grid c.args.records.now) in
-    let m = c.args.spans.now in
+    let m = c.args.cfg.now in
     let i : c.loop-i.i ≡ t.rows = omega (arith, c.loop-i-test.false, c.loop-i.auto.i-end, c.requires.sheet.rows) in
     let over : IsOwnerRow t.rows t.columns (rectangles m) c.loop-i.i c.deref.result.now = rw c.deref.ensures.value c.loop-i.invariant.band.above in
     let under : IsOwnerRow t.rows t.columns (rectangles m) (c.loop-i.i + 1) c.deref-2.result.now = rw c.deref-2.ensures.value (row-outside t.rows t.columns m (c.loop-i.i + 1) c.clear-2.new.row.items (λ j. owner-below t.rows t.columns (rectangles m) (c.loop-i.i + 1) j (omega (arith, i))) (c.clear-2.ensures.long ∙ c.loop-i.invariant.band.here) c.clear-2.ensures.none) in
     let style = sheet.look.style in
     let aligns = sheet.look.alignments.now in
-    let plan = plan_on sheet t c.args.spans.now in
+    let plan = plan_on sheet t c.args.cfg.now in
     let last : sheet.rows ≡ c.loop-i.i = c.requires.sheet.rows ∙ sym i in
     let drawn : Draws g.W.Write.contents c.loop-i.pen c.write_border.new.pen (drawn_border sheet c.loop-i.i c.deref.result.now c.deref-2.result.now (length rests) (bytes_in rests)) =
     draws-as (ap (λ k. drawn_border sheet k c.deref.result.now c.deref-2.result.now (length rests) (bytes_in rests)) last) c.write_border.ensures.draws in

@@ -7,7 +7,7 @@ use Rattle.tabled_draw.specs.Lines.{drawn_line}
 use Rattle.tabled_draw.proofs.drawing.write_row.Goals as goal
 
 pub write_border-requires-clause-inside : goal.write_border-requires-clause-inside
-write_border-requires-clause-inside g c = rw (c.requires.band.long, c.deref-3.ensures.value) (end-inside c.args.spans.now _ _ c.args.i c.args.band.now.above.items c.requires.sheet.fits c.requires.band.above)
+write_border-requires-clause-inside g c = rw (c.requires.band.long, c.deref-3.ensures.value) (end-inside c.args.cfg.now _ _ c.args.i c.args.band.now.above.items c.requires.sheet.fits c.requires.band.above)
 
 pub write_border-requires-clause-unmerged : goal.write_border-requires-clause-unmerged
 write_border-requires-clause-unmerged g c =
@@ -19,17 +19,17 @@ write_border-requires-clause-unmerged g c =
     (c.are_unmerged-is_unmerged.ensures unmerged t c.requires.row c.requires.wide c.requires.sheet.fits (rw c.deref.ensures.value c.requires.band.above) (rw c.deref-2.ensures.value c.write_owners-band.ensures.here)))))
 
 pub write_row_line-requires-clause-inside : goal.write_row_line-requires-clause-inside
-write_row_line-requires-clause-inside g c = rw (c.loop-y.invariant.long, c.deref-in-loop-y.ensures.value) (end-inside c.args.spans.now _ _ (c.args.i + 1) c.loop-y.band.here.items c.requires.sheet.fits (rw c.loop-y.invariant.here c.write_owners-band.ensures.here))
+write_row_line-requires-clause-inside g c = rw (c.loop-y.invariant.long, c.deref-in-loop-y.ensures.value) (end-inside c.args.cfg.now _ _ (c.args.i + 1) c.loop-y.band.here.items c.requires.sheet.fits (rw c.loop-y.invariant.here c.write_owners-band.ensures.here))
 
 pub loop-y-init : goal.loop-y-init
 loop-y-init g c =
     let sheet = c.args.sheet.now in
     let t = map_grid g.R.Cell.CellText.text_of (g.R.GridStore.grid c.args.records.now) in
-    let m = c.args.spans.now in
+    let m = c.args.cfg.now in
     let i = c.args.i in
     let style = sheet.look.style in
     let aligns = sheet.look.alignments.now in
-    let plan = plan_on sheet t c.args.spans.now in
+    let plan = plan_on sheet t c.args.cfg.now in
     let old = bytes_in c.args.band.now.rests.items in
     let cut = bytes_in c.write_border.new.rests.items in
     let new = bytes_in c.begin.new.rests.items in
@@ -55,12 +55,12 @@ pub loop-y-preserved : goal.loop-y-preserved
 loop-y-preserved g c =
     let sheet = c.args.sheet.now in
     let t = map_grid g.R.Cell.CellText.text_of (g.R.GridStore.grid c.args.records.now) in
-    let m = c.args.spans.now in
+    let m = c.args.cfg.now in
     let i = c.args.i in
     let y = c.loop-y._y in
     let style = sheet.look.style in
     let aligns = sheet.look.alignments.now in
-    let plan = plan_on sheet t c.args.spans.now in
+    let plan = plan_on sheet t c.args.cfg.now in
     let n = top plan i + line_height plan i + y in
     let old = bytes_in c.loop-y.band.rests.items in
     let new = bytes_in c.write_row_line.new.rests.items in
@@ -84,11 +84,11 @@ pub returns : goal.returns
 returns g c =
     let sheet = c.args.sheet.now in
     let t = map_grid g.R.Cell.CellText.text_of (g.R.GridStore.grid c.args.records.now) in
-    let m = c.args.spans.now in
+    let m = c.args.cfg.now in
     let i = c.args.i in
     let style = sheet.look.style in
     let aligns = sheet.look.alignments.now in
-    let plan = plan_on sheet t c.args.spans.now in
+    let plan = plan_on sheet t c.args.cfg.now in
     let e : c.loop-y._y ≡ get_or sheet.heights.now i 0 = omega (arith, c.loop-y-test.false, c.loop-y.auto._y-end) in
     let y : c.loop-y._y ≡ get_or (heights plan) i 0 = e ∙ ap (λ hs. get_or hs i 0) c.requires.sheet.high in
     let next : top plan (i + 1) ≡ top plan i + (line_height plan i + get_or (heights plan) i 0 + 0) = start-next Rows style t (rectangles m) i in

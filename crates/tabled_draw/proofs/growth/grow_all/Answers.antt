@@ -6,15 +6,15 @@ use Rattle.tabled_draw.proofs.growth.grow_all.Goals as goal
 pub get_text-requires-clause-inside : goal.get_text-requires-clause-inside
 get_text-requires-clause-inside g c =
     let t = map_grid g.R.Cell.CellText.text_of (g.R.GridStore.grid c.args.records.now) in
-    let ordered = order-is c.args.axis t c.args.spans.now _ c.as_slice-order.result.now c.requires.fits c.rectangles.ensures.rectangles (λ k n below. c.as_slice-order.ensures.value ∙ c.in_ok-rectangles.ensures k n below) in
-    let e = ordered-at c.args.axis t c.args.spans.now _ _ c.requires.fits c.as_slice-order.result.now ordered c.loop-k.k (get_or c.as_slice-order.result.now c.loop-k.k (rectangle (record { row = 0; col = 0 }) (sized 0 0))) c.loop-k-test.true (get_or_default c.as_slice-order.result.now c.loop-k.k _ _ c.loop-k-test.true) in
+    let ordered = order-is c.args.axis t c.args.cfg.now _ c.as_slice-order.result.now c.requires.fits c.rectangles.ensures.rectangles (λ k n below. c.as_slice-order.ensures.value ∙ c.in_ok-rectangles.ensures k n below) in
+    let e = ordered-at c.args.axis t c.args.cfg.now _ _ c.requires.fits c.as_slice-order.result.now ordered c.loop-k.k (get_or c.as_slice-order.result.now c.loop-k.k (rectangle (record { row = 0; col = 0 }) (sized 0 0))) c.loop-k-test.true (get_or_default c.as_slice-order.result.now c.loop-k.k _ _ c.loop-k-test.true) in
     record { row = omega (arith, e.0.height, e.1.bottom); col = omega (arith, e.0.width, e.1.right) }
 
 pub grow-requires : goal.grow-requires
 grow-requires g c =
     let t = map_grid g.R.Cell.CellText.text_of (g.R.GridStore.grid c.args.records.now) in
-    let ordered = order-is c.args.axis t c.args.spans.now _ c.as_slice-order.result.now c.requires.fits c.rectangles.ensures.rectangles (λ k n below. c.as_slice-order.ensures.value ∙ c.in_ok-rectangles.ensures k n below) in
-    let e = ordered-at c.args.axis t c.args.spans.now _ _ c.requires.fits c.as_slice-order.result.now ordered c.loop-k.k (get_or c.as_slice-order.result.now c.loop-k.k (rectangle (record { row = 0; col = 0 }) (sized 0 0))) c.loop-k-test.true (get_or_default c.as_slice-order.result.now c.loop-k.k _ _ c.loop-k-test.true) in
+    let ordered = order-is c.args.axis t c.args.cfg.now _ c.as_slice-order.result.now c.requires.fits c.rectangles.ensures.rectangles (λ k n below. c.as_slice-order.ensures.value ∙ c.in_ok-rectangles.ensures k n below) in
+    let e = ordered-at c.args.axis t c.args.cfg.now _ _ c.requires.fits c.as_slice-order.result.now ordered c.loop-k.k (get_or c.as_slice-order.result.now c.loop-k.k (rectangle (record { row = 0; col = 0 }) (sized 0 0))) c.loop-k-test.true (get_or_default c.as_slice-order.result.now c.loop-k.k _ _ c.loop-k-test.true) in
     let along = lies-along c.args.axis (g.R.GridStore.grid c.args.records.now) _ e.0 e.1 in
     record { some = rw c.lines_in.ensures along.0; end = rw (c.lines_in.ensures, c.line_of-line.ensures, c.loop-k.invariant.long) along.1 }
 
@@ -35,5 +35,5 @@ loop-k-preserved g c =
 pub returns-clause-grown : goal.returns-clause-grown
 returns-clause-grown g c =
     let t = map_grid g.R.Cell.CellText.text_of (g.R.GridStore.grid c.args.records.now) in
-    let ordered = order-is c.args.axis t c.args.spans.now _ c.as_slice-order.result.now c.requires.fits c.rectangles.ensures.rectangles (λ k n below. c.as_slice-order.ensures.value ∙ c.in_ok-rectangles.ensures k n below) in
+    let ordered = order-is c.args.axis t c.args.cfg.now _ c.as_slice-order.result.now c.requires.fits c.rectangles.ensures.rectangles (λ k n below. c.as_slice-order.ensures.value ∙ c.in_ok-rectangles.ensures k n below) in
     c.loop-k.invariant.grown ∙ ap (fold (grown_for c.args.axis c.args.style.now t) c.args.sizes.now.items) (take_all c.loop-k.k c.as_slice-order.result.now c.loop-k-test.false ∙ ordered)

@@ -6,10 +6,10 @@ use Rattle.tabled_html.proofs.rows.write_groups.Goals as goal
 
 pub returns-then-has_head : goal.returns-then-has_head
 returns-then-has_head g c =
-    sends-as (head-sent (map_grid g.R.Cell.CellText.text_of (g.R.GridStore.grid c.args.records.now)) c.args.spans.now c.args.page.now c.count_rows-rows.result c.header_rows-header.result c.count_rows-rows.ensures.rows c.header_rows-header.ensures (sym c.has_head.ensures.has ∙ c.if-has_head.true))
+    sends-as (head-sent (map_grid g.R.Cell.CellText.text_of (g.R.GridStore.grid c.args.records.now)) c.args.cfg.now c.args.page.now c.count_rows-rows.result c.header_rows-header.result c.count_rows-rows.ensures.rows c.header_rows-header.ensures (sym c.has_head.ensures.has ∙ c.if-has_head.true))
     (sends-then c.write_group.ensures.sent c.write_group-then-has_head.ensures.sent)
 
 pub returns : goal.returns
 returns g c =
-    sends-as (body-sent (map_grid g.R.Cell.CellText.text_of (g.R.GridStore.grid c.args.records.now)) c.args.spans.now c.args.page.now c.count_rows-rows.result c.header_rows-header.result c.count_rows-rows.ensures.rows c.header_rows-header.ensures (sym c.has_head.ensures.has ∙ c.if-has_head.false))
+    sends-as (body-sent (map_grid g.R.Cell.CellText.text_of (g.R.GridStore.grid c.args.records.now)) c.args.cfg.now c.args.page.now c.count_rows-rows.result c.header_rows-header.result c.count_rows-rows.ensures.rows c.header_rows-header.ensures (sym c.has_head.ensures.has ∙ c.if-has_head.false))
     c.write_group-2.ensures.sent

@@ -12,6 +12,6 @@ use Rattle.tabled_html.proofs.rows.write_row.Given as goal
 
 abbrev pub invariant-loop-j : goal.invariant-loop-j
 invariant-loop-j g l = record {
-  sends : Sends g.W.Write.contents l.fn.pen l.pen (codes "<tr>" ++ flat_map cell_bytes (series l.j (λ j. begun_at (map_grid g.R.Cell.CellText.text_of (g.R.GridStore.grid l.records)) l.spans l.page (place l.i j))));
-  ends : AreEnds l.spans (g.R.GridStore.grid l.records).rows (g.R.GridStore.grid l.records).columns l.i l.j l.ends;
+  sends : Sends g.W.Write.contents l.fn.pen l.pen (codes "<tr>" ++ flat_map cell_bytes (series l.j (λ j. begun_at (map_grid g.R.Cell.CellText.text_of (g.R.GridStore.grid l.records)) l.cfg l.page (place l.i j))));
+  ends : AreEnds l.cfg (g.R.GridStore.grid l.records).rows (g.R.GridStore.grid l.records).columns l.i l.j l.ends;
 }

@@ -10,6 +10,6 @@ use Rattle.tabled_html.proofs.rows.write_rows.Given as goal
 
 abbrev pub invariant-loop-k : goal.invariant-loop-k
 invariant-loop-k g l = record {
-  sends : Sends g.W.Write.contents l.fn.pen l.pen (flat_map row_bytes (series l.k (λ k. row_of (map_grid g.R.Cell.CellText.text_of (g.R.GridStore.grid l.records)) l.spans l.page (l.first + k) ∷ [])));
-  ends : AreEnds l.spans (g.R.GridStore.grid l.records).rows (g.R.GridStore.grid l.records).columns (l.first + l.k) 0 l.ends;
+  sends : Sends g.W.Write.contents l.fn.pen l.pen (flat_map row_bytes (series l.k (λ k. row_of (map_grid g.R.Cell.CellText.text_of (g.R.GridStore.grid l.records)) l.cfg l.page (l.first + k) ∷ [])));
+  ends : AreEnds l.cfg (g.R.GridStore.grid l.records).rows (g.R.GridStore.grid l.records).columns (l.first + l.k) 0 l.ends;
 }

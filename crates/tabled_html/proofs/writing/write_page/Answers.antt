@@ -8,7 +8,7 @@ use Rattle.tabled_html.proofs.writing.write_page.Goals as goal
 pub returns-then-is_whole : goal.returns-then-is_whole
 returns-then-is_whole g c =
     rw (sym c.is_whole.ensures ∙ c.if-is_whole.true)
-    (sends-as (append_assoc page_start (table_bytes (table (map_grid g.R.Cell.CellText.text_of (g.R.GridStore.grid c.args.records.now)) c.args.spans.now c.args.page.now)) page_end)
+    (sends-as (append_assoc page_start (table_bytes (table (map_grid g.R.Cell.CellText.text_of (g.R.GridStore.grid c.args.records.now)) c.args.cfg.now c.args.page.now)) page_end)
     (sends-then (sends-then c.write_page_start.ensures c.write_table.ensures) c.write_page_end.ensures))
 
 pub returns : goal.returns

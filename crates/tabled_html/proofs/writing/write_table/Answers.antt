@@ -12,5 +12,5 @@ pub returns : goal.returns
 returns g c =
     let class = sends-as (ap (λ class. flat_map attribute_bytes (class_attribute class)) c.class_text.ensures) c.write_class.ensures in
     let caption = sends-as (ap (λ caption. caption_bytes caption) c.caption_text.ensures) c.write_caption.ensures in
-    sends-as (table-parts (flat_map attribute_bytes (class_attribute c.args.page.now.class)) (caption_bytes c.args.page.now.caption) (flat_map group_bytes (groups_of (map_grid g.R.Cell.CellText.text_of (g.R.GridStore.grid c.args.records.now)) c.args.spans.now c.args.page.now)) (codes "</table>\n"))
+    sends-as (table-parts (flat_map attribute_bytes (class_attribute c.args.page.now.class)) (caption_bytes c.args.page.now.caption) (flat_map group_bytes (groups_of (map_grid g.R.Cell.CellText.text_of (g.R.GridStore.grid c.args.records.now)) c.args.cfg.now c.args.page.now)) (codes "</table>\n"))
     (sends-then (sends-then (sends-then (sends-then (sends-then c.send.ensures class) c.send-2.ensures) caption) c.write_groups.ensures) c.send-3.ensures)

@@ -9,5 +9,5 @@ invariant-loop-step g l = record {
   ends : (goal.iterator-loop-step g).is_finite l.step-iterator;
   counted : into_iter_len l.step-iterator ≡ length (into_iter_items l.step-iterator);
   well : IsEven (grid_of (map_items l.records.items));
-  leads : after_all (into_iter_items l.step-iterator) (state_in l.records.items l.spans) ≡ after_all l.fn.steps.items (state_in l.fn.records.items l.fn.spans);
+  leads : after_all (into_iter_items l.step-iterator) (state_in l.records.items l.cfg) ≡ after_all l.fn.steps.items (state_in l.fn.records.items l.fn.cfg);
 }

@@ -11,7 +11,7 @@ use Rattle.tabled_script.proofs.picture.write_narrow_picture.Goals as goal
 pub returns-then-columns-width-clause-written : goal.returns-then-columns-width-clause-written
 returns-then-columns-width-clause-written g c =
     let t = map_grid g.R.Cell.CellText.text_of (g.R.GridStore.grid c.args.records.now) in
-    let m = c.args.spans.now in
+    let m = c.args.cfg.now in
     let style = c.args.style in
     let fits : picture_width style t m ≤ c.args.width = omega (arith, c.in_ok-whole.ensures.width, c.if-columns-width.true) in
     on_ok_weaker c.write_drawing.result
@@ -21,7 +21,7 @@ returns-then-columns-width-clause-written g c =
 pub returns-then-width-takes-clause-unwritten : goal.returns-then-width-takes-clause-unwritten
 returns-then-width-takes-clause-unwritten g c =
     let t = map_grid g.R.Cell.CellText.text_of (g.R.GridStore.grid c.args.records.now) in
-    let m = c.args.spans.now in
+    let m = c.args.cfg.now in
     let style = c.args.style in
     let takes : c.in_ok-least.takes ≡ picture_width style (at_widest_pieces t) m = c.in_ok-least.ensures.width ∙ ap (λ (g : Grid (List ℕ)). picture_width style g m) c.in_ok-pieces.ensures.texts in
     ((wider-undrawn style m t c.args.width (omega (arith, c.in_ok-whole.ensures.width, c.if-columns-width.false)) (omega (arith, takes, c.if-width-takes.true)), takes), refl)
@@ -29,7 +29,7 @@ returns-then-width-takes-clause-unwritten g c =
 pub returns-then-columns-width-2-clause-written : goal.returns-then-columns-width-2-clause-written
 returns-then-columns-width-2-clause-written g c =
     let t = map_grid g.R.Cell.CellText.text_of (g.R.GridStore.grid c.args.records.now) in
-    let m = c.args.spans.now in
+    let m = c.args.cfg.now in
     let n = c.args.width in
     let style = c.args.style in
     let cut = map_grid string_bytes (grid_of (map_items c.in_ok-cut.cut.items)) in
@@ -46,7 +46,7 @@ returns-then-columns-width-2-clause-written g c =
 pub returns-clause-written : goal.returns-clause-written
 returns-clause-written g c =
     let t = map_grid g.R.Cell.CellText.text_of (g.R.GridStore.grid c.args.records.now) in
-    let m = c.args.spans.now in
+    let m = c.args.cfg.now in
     let n = c.args.width in
     let style = c.args.style in
     let cut = map_grid string_bytes (grid_of (map_items c.in_ok-cut.cut.items)) in

@@ -14,7 +14,7 @@ returns-clause-written g c =
     let name = c.finish-written.ensures.same_writer ∙ c.write_spans.ensures.same_writer ∙ c.write_table.ensures.sends.same_writer ∙ c.new-pen.ensures.same_writer in
     let none = ap (λ (held : Kept). held.bytes) c.new-pen.ensures.held ∙ c.requires.unused in
     on_ok_weaker outcome
-    (λ all. let bytes = subst (λ w. Appends (contents w) (contents c.finish-written.result.0.now) (print (state_by g.T.CellText.text_of c.args.records.now.items c.args.spans.now))) c.new-pen.ensures.unchanged all in search rules)
+    (λ all. let bytes = subst (λ w. Appends (contents w) (contents c.finish-written.result.0.now) (print (state_by g.T.CellText.text_of c.args.records.now.items c.args.cfg.now))) c.new-pen.ensures.unchanged all in search rules)
     (all-written outcome none (sends-then c.write_table.ensures.sends c.write_spans.ensures) c.finish-written.ensures)
 
 pub returns-clause-known : goal.returns-clause-known
