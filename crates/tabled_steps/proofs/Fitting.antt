@@ -44,7 +44,7 @@ module _ {A : Type 0} (is_blank : A → Type 0) (text_of : A → List ℕ) where
 
   refused_keeps : (steps : List Step) → AllByRecursion KeepsCellsFitting steps → AllByRecursion (λ s. OptionKeeps fitting (Does is_blank text_of s) (Refused is_blank text_of s)) steps
   refused_keeps [] all = tt
-  refused_keeps (s ∷ steps) all = (let keeps = step_keeps s all.0 in record { done = keeps.done; refused = λ g c h d fits left. keeps.refused g c h d fits left.0 }, refused_keeps steps all.1)
+  refused_keeps (s ∷ steps) all = (let keeps = step_keeps s all.0 in record { done = keeps.done; refused = λ old cfg new new_cfg fits left. keeps.refused old cfg new new_cfg fits left.0 }, refused_keeps steps all.1)
 
   pub steps_keep : (steps : List Step) → AllByRecursion KeepsCellsFitting steps → OptionKeeps fitting (Each (Does is_blank text_of) steps) (EachUntil (Does is_blank text_of) (Refused is_blank text_of) steps)
   steps_keep steps all = keeps_all fitting (Does is_blank text_of) (Refused is_blank text_of) steps (refused_keeps steps all)

@@ -21,16 +21,16 @@ module _ {A : Type 0} (text_of : A → List ℕ) where
   -- writes of texts
   local_writes : (writes : Entity → Grid (List ℕ) → List Write) → AreLocal writes → IsLocal (λ e. DoesWrites {A = A} {C = SpanMap} text_of (writes e)) (λ e. DoesFirstWrites text_of (writes e))
   local_writes writes local = record {
-    rows = λ e g c h d w. (shape_texts text_of (writes e (map_grid text_of g)) g h c d w.0 w.1).0;
-    columns = λ e g c h d w. (shape_texts text_of (writes e (map_grid text_of g)) g h c d w.0 w.1).1;
-    alike = λ e f g c h d same w. (w.0 ∙ ap (λ ws. with_writes ws (map_grid text_of g)) (sym (local.alike e f (map_grid text_of g) same)), w.1);
-    again = λ e g c h d none w. (
-      (let shape = shape_texts text_of (writes e (map_grid text_of g)) g h c d w.0 w.1 in
-          let there : inside e h.rows h.columns ≡ [] = rw (shape.0, shape.1) none in
-          ap (λ ws. with_writes ws (map_grid text_of h)) (sym (local.none e (map_grid text_of h) there))),
+    rows = λ e old cfg new new_cfg w. (shape_texts text_of (writes e (map_grid text_of old)) old new cfg new_cfg w.0 w.1).0;
+    columns = λ e old cfg new new_cfg w. (shape_texts text_of (writes e (map_grid text_of old)) old new cfg new_cfg w.0 w.1).1;
+    alike = λ e f old cfg new new_cfg same w. (w.0 ∙ ap (λ ws. with_writes ws (map_grid text_of old)) (sym (local.alike e f (map_grid text_of old) same)), w.1);
+    again = λ e old cfg new new_cfg none w. (
+      (let shape = shape_texts text_of (writes e (map_grid text_of old)) old new cfg new_cfg w.0 w.1 in
+          let there : inside e new.rows new.columns ≡ [] = rw (shape.0, shape.1) none in
+          ap (λ ws. with_writes ws (map_grid text_of new)) (sym (local.none e (map_grid text_of new) there))),
       refl,
     );
-    left_alike = λ e f g c h d same w. (subst (λ ws. FirstWrites ws (map_grid text_of g) (map_grid text_of h)) (sym (local.alike e f (map_grid text_of g) same)) w.0, w.1);
+    left_alike = λ e f old cfg new new_cfg same w. (subst (λ ws. FirstWrites ws (map_grid text_of old) (map_grid text_of new)) (sym (local.alike e f (map_grid text_of old) same)) w.0, w.1);
   }
 
 local_span_writes : (axis : Axis) (size : ℤ) → AreLocal (span_writes axis size)
@@ -67,32 +67,32 @@ module _ {A : Type 0} (text_of : A → List ℕ) (axis : Axis) (size : ℤ) wher
   writes_local : AreLocal (span_writes axis size)
   writes_local = local_span_writes axis size
 
-  shaped : (e : Entity) (g : Grid A) (c : SpanMap) (h : Grid A) (d : SpanMap) → Spans text_of axis size e g c h d → (h.rows ≡ g.rows) × (h.columns ≡ g.columns) × (c ≡ c)
-  shaped e g c h d w = shape_texts text_of (span_writes axis size e (map_grid text_of g)) g h c c w.texts refl
+  shaped : (e : Entity) (old : Grid A) (cfg : SpanMap) (new : Grid A) (new_cfg : SpanMap) → Spans text_of axis size e old cfg new new_cfg → (new.rows ≡ old.rows) × (new.columns ≡ old.columns) × (cfg ≡ cfg)
+  shaped e old cfg new new_cfg w = shape_texts text_of (span_writes axis size e (map_grid text_of old)) old new cfg cfg w.texts refl
 
-  left_alike : (e f : Entity) (g : Grid A) (c : SpanMap) (h : Grid A) (d : SpanMap) → inside e g.rows g.columns ≡ inside f g.rows g.columns → SpansFirst text_of axis size f g c h d → SpansFirst text_of axis size e g c h d
-  left_alike e f g c h d same (inl none) = inl none
-  left_alike e f g c h d same (inr first) = inr (subst (λ ws. FirstWrites ws (map_grid text_of g) (map_grid text_of h)) (sym (writes_local.alike e f (map_grid text_of g) same)) first.0, first.1)
+  left_alike : (e f : Entity) (old : Grid A) (cfg : SpanMap) (new : Grid A) (new_cfg : SpanMap) → inside e old.rows old.columns ≡ inside f old.rows old.columns → SpansFirst text_of axis size f old cfg new new_cfg → SpansFirst text_of axis size e old cfg new new_cfg
+  left_alike e f old cfg new new_cfg same (inl none) = inl none
+  left_alike e f old cfg new new_cfg same (inr first) = inr (subst (λ ws. FirstWrites ws (map_grid text_of old) (map_grid text_of new)) (sym (writes_local.alike e f (map_grid text_of old) same)) first.0, first.1)
 
-  again : (e : Entity) (g : Grid A) (c : SpanMap) (h : Grid A) (d : SpanMap) → inside e g.rows g.columns ≡ [] → Spans text_of axis size e g c h d → Spans text_of axis size e h d h d
-  again e g c h d none w =
-      let shape = shaped e g c h d w in
-      let there : inside e h.rows h.columns ≡ [] = rw (shape.0, shape.1) none in
-      let dropped : d ≡ drop_hidden c = w.spans ∙ spanned_none axis size e g.rows g.columns c none in
+  again : (e : Entity) (old : Grid A) (cfg : SpanMap) (new : Grid A) (new_cfg : SpanMap) → inside e old.rows old.columns ≡ [] → Spans text_of axis size e old cfg new new_cfg → Spans text_of axis size e new new_cfg new new_cfg
+  again e old cfg new new_cfg none w =
+      let shape = shaped e old cfg new new_cfg w in
+      let there : inside e new.rows new.columns ≡ [] = rw (shape.0, shape.1) none in
+      let dropped : new_cfg ≡ drop_hidden cfg = w.spans ∙ spanned_none axis size e old.rows old.columns cfg none in
       record {
-        texts = ap (λ ws. with_writes ws (map_grid text_of h)) (sym (writes_local.none e (map_grid text_of h) there));
+        texts = ap (λ ws. with_writes ws (map_grid text_of new)) (sym (writes_local.none e (map_grid text_of new) there));
         cells = λ grows. refl;
-        spans = dropped ∙ sym (dropped_once c) ∙ ap drop_hidden (sym dropped) ∙ sym (spanned_none axis size e h.rows h.columns d there);
+        spans = dropped ∙ sym (dropped_once cfg) ∙ ap drop_hidden (sym dropped) ∙ sym (spanned_none axis size e new.rows new.columns new_cfg there);
       }
 
   local_spans : IsLocal (Spans text_of axis size) (SpansFirst text_of axis size)
   local_spans = record {
-    rows = λ e g c h d w. (shaped e g c h d w).0;
-    columns = λ e g c h d w. (shaped e g c h d w).1;
-    alike = λ e f g c h d same w. record {
-      texts = w.texts ∙ ap (λ ws. with_writes ws (map_grid text_of g)) (sym (writes_local.alike e f (map_grid text_of g) same));
+    rows = λ e old cfg new new_cfg w. (shaped e old cfg new new_cfg w).0;
+    columns = λ e old cfg new new_cfg w. (shaped e old cfg new new_cfg w).1;
+    alike = λ e f old cfg new new_cfg same w. record {
+      texts = w.texts ∙ ap (λ ws. with_writes ws (map_grid text_of old)) (sym (writes_local.alike e f (map_grid text_of old) same));
       cells = w.cells;
-      spans = w.spans ∙ sym (spanned_alike axis size e f g.rows g.columns c same);
+      spans = w.spans ∙ sym (spanned_alike axis size e f old.rows old.columns cfg same);
     };
     again = again;
     left_alike = left_alike;

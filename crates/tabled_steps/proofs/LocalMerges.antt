@@ -37,9 +37,9 @@ none_merged axis e g m none = record { each = λ p. inr (λ many run. subst (Mem
 
 pub local_merges : {A : Type 0} (text_of : A → List ℕ) (axis : Axis) → IsLocal (Merges text_of axis) (λ _. Same)
 local_merges text_of axis = record {
-  rows = λ e g c h d w. ap (λ k. k.rows) w.0;
-  columns = λ e g c h d w. ap (λ k. k.columns) w.0;
-  alike = λ e f g c h d same w. (w.0, merged_alike axis e f (map_grid text_of g) c d same w.1);
-  again = λ e g c h d none w. (refl, none_merged axis e (map_grid text_of h) d (rw w.0 none));
-  left_alike = λ e f g c h d same w. w;
+  rows = λ e old cfg new new_cfg w. ap (λ k. k.rows) w.0;
+  columns = λ e old cfg new new_cfg w. ap (λ k. k.columns) w.0;
+  alike = λ e f old cfg new new_cfg same w. (w.0, merged_alike axis e f (map_grid text_of old) cfg new_cfg same w.1);
+  again = λ e old cfg new new_cfg none w. (refl, none_merged axis e (map_grid text_of new) new_cfg (rw w.0 none));
+  left_alike = λ e f old cfg new new_cfg same w. w;
 }

@@ -12,23 +12,23 @@ use Rattle.tabled_steps.specs.Steps.{RefusedAt}
 use Rattle.tabled_steps.specs.declared.step.Step.TheVariants as step
 
 module _ {A C X : Type 0} (does leaves : X → Change A C) where
-  each_both : (xs ys : List X) (g : Grid A) (c : C) (m : Grid A) (k : C) (h : Grid A) (d : C) → Each does xs g c m k → Each does ys m k h d → Each does (xs ++ ys) g c h d
-  each_both [] ys g c m k h d (cells, spans) each = rw (← cells, ← spans) each
-  each_both (x ∷ xs) ys g c m k h d (n, l, first, rest) each = (n, l, first, each_both xs ys n l m k h d rest each)
+  each_both : (xs ys : List X) (old : Grid A) (cfg : C) (between : Grid A) (between_cfg : C) (new : Grid A) (new_cfg : C) → Each does xs old cfg between between_cfg → Each does ys between between_cfg new new_cfg → Each does (xs ++ ys) old cfg new new_cfg
+  each_both [] ys old cfg between between_cfg new new_cfg (cells, spans) each = rw (← cells, ← spans) each
+  each_both (x ∷ xs) ys old cfg between between_cfg new new_cfg (behind, behind_cfg, first, rest) each = (behind, behind_cfg, first, each_both xs ys behind behind_cfg between between_cfg new new_cfg rest each)
 
   -- items that follow change nothing
-  until_first : (xs ys : List X) (n : ℕ) (g : Grid A) (c : C) (h : Grid A) (d : C) → EachUntilAt does leaves xs n g c h d → EachUntilAt does leaves (xs ++ ys) n g c h d
-  until_first xs ys n g c h d at =
+  until_first : (xs ys : List X) (n : ℕ) (old : Grid A) (cfg : C) (new : Grid A) (new_cfg : C) → EachUntilAt does leaves xs n old cfg new new_cfg → EachUntilAt does leaves (xs ++ ys) n old cfg new new_cfg
+  until_first xs ys n old cfg new new_cfg at =
       let within = slice_get_within xs n at.item at.is in
       let same = take-append-le n xs ys (omega (arith, within)) in
       record { item = at.item; is = front_read xs ys n within ∙ at.is; grid = at.grid; configuration = at.configuration; before = rw same at.before; left = at.left }
 
   -- items are done before
-  until_later : (xs ys : List X) (n k : ℕ) (g : Grid A) (c : C) (m : Grid A) (l : C) (h : Grid A) (d : C) → k ≡ length xs + n → Each does xs g c m l → EachUntilAt does leaves ys n m l h d → EachUntilAt does leaves (xs ++ ys) k g c h d
-  until_later [] ys n k g c m l h d is (cells, spans) at = let same : k ≡ n = omega (arith, is) in rw (same, ← cells, ← spans) at
-  until_later (x ∷ xs) ys n k g c m l h d is (a, b, first, rest) at =
+  until_later : (xs ys : List X) (n k : ℕ) (old : Grid A) (cfg : C) (between : Grid A) (between_cfg : C) (new : Grid A) (new_cfg : C) → k ≡ length xs + n → Each does xs old cfg between between_cfg → EachUntilAt does leaves ys n between between_cfg new new_cfg → EachUntilAt does leaves (xs ++ ys) k old cfg new new_cfg
+  until_later [] ys n k old cfg between between_cfg new new_cfg is (cells, spans) at = let same : k ≡ n = omega (arith, is) in rw (same, ← cells, ← spans) at
+  until_later (x ∷ xs) ys n k old cfg between between_cfg new new_cfg is (behind, behind_cfg, first, rest) at =
       let next : k ≡ suc (length xs + n) = omega (arith, is) in
-      rw next (later_refused does leaves x (xs ++ ys) g c a b (length xs + n) h d first (until_later xs ys n (length xs + n) a b m l h d refl rest at))
+      rw next (later_refused does leaves x (xs ++ ys) old cfg behind behind_cfg (length xs + n) new new_cfg first (until_later xs ys n (length xs + n) behind behind_cfg between between_cfg new new_cfg refl rest at))
 
 -- the parts of steps are those of the steps before one, of that one, and of the others
 flattened_at : (xs : List Step) (k : ℕ) (x : Step) → slice_get xs k ≡ Some x → (rest : List Step) × (flattened xs ≡ flattened (take k xs) ++ (parts x ++ rest)) × (flattened (take (suc k) xs) ≡ flattened (take k xs) ++ parts x)
@@ -40,32 +40,32 @@ flattened_at (y ∷ ys) (suc k) x is =
     (rest.0, ap (λ zs. parts y ++ zs) rest.1 ∙ sym (append_assoc (parts y) before (parts x ++ rest.0)), ap (λ zs. parts y ++ zs) rest.2 ∙ sym (append_assoc (parts y) before (parts x)))
 
 module _ {A : Type 0} (is_blank : A → Type 0) (text_of : A → List ℕ) where
-  each_part : (x : Step) (g : Grid A) (c : SpanMap) (h : Grid A) (d : SpanMap) → Does is_blank text_of x g c h d → Each (Does is_blank text_of) (parts x) g c h d
-  each_part (step.Both' _ first _ second) g c h d (m, k, one, other) = each_both (Does is_blank text_of) (Leaves is_blank text_of) (parts first) (parts second) g c m k h d (each_part first g c m k one) (each_part second m k h d other)
-  each_part _ g c h d does = (h, d, does, (refl, refl))
+  each_part : (x : Step) (old : Grid A) (cfg : SpanMap) (new : Grid A) (new_cfg : SpanMap) → Does is_blank text_of x old cfg new new_cfg → Each (Does is_blank text_of) (parts x) old cfg new new_cfg
+  each_part (step.Both' _ first _ second) old cfg new new_cfg (between, between_cfg, one, other) = each_both (Does is_blank text_of) (Leaves is_blank text_of) (parts first) (parts second) old cfg between between_cfg new new_cfg (each_part first old cfg between between_cfg one) (each_part second between between_cfg new new_cfg other)
+  each_part _ old cfg new new_cfg does = (new, new_cfg, does, (refl, refl))
 
-  each_flattened : (xs : List Step) (g : Grid A) (c : SpanMap) (h : Grid A) (d : SpanMap) → Each (Does is_blank text_of) xs g c h d → Each (Does is_blank text_of) (flattened xs) g c h d
-  each_flattened [] g c h d same = same
-  each_flattened (x ∷ xs) g c h d (m, k, first, rest) = each_both (Does is_blank text_of) (Leaves is_blank text_of) (parts x) (flattened xs) g c m k h d (each_part x g c m k first) (each_flattened xs m k h d rest)
+  each_flattened : (xs : List Step) (old : Grid A) (cfg : SpanMap) (new : Grid A) (new_cfg : SpanMap) → Each (Does is_blank text_of) xs old cfg new new_cfg → Each (Does is_blank text_of) (flattened xs) old cfg new new_cfg
+  each_flattened [] old cfg new new_cfg same = same
+  each_flattened (x ∷ xs) old cfg new new_cfg (between, between_cfg, first, rest) = each_both (Does is_blank text_of) (Leaves is_blank text_of) (parts x) (flattened xs) old cfg between between_cfg new new_cfg (each_part x old cfg between between_cfg first) (each_flattened xs between between_cfg new new_cfg rest)
 
-  refused_part : (x : Step) (g : Grid A) (c : SpanMap) (h : Grid A) (d : SpanMap) → Leaves is_blank text_of x g c h d → EachUntil (Does is_blank text_of) (Leaves is_blank text_of) (parts x) g c h d
-  refused_part (step.Both' _ first _ second) g c h d (inl left) =
-      let at = refused_part first g c h d left in
-      (at.0, until_first (Does is_blank text_of) (Leaves is_blank text_of) (parts first) (parts second) at.0 g c h d at.1)
-  refused_part (step.Both' _ first _ second) g c h d (inr (m, k, one, other)) =
-      let at = refused_part second m k h d other in
-      (length (parts first) + at.0, until_later (Does is_blank text_of) (Leaves is_blank text_of) (parts first) (parts second) at.0 (length (parts first) + at.0) g c m k h d refl (each_part first g c m k one) at.1)
-  refused_part x g c h d left = (0, first_refused (Does is_blank text_of) (Leaves is_blank text_of) x [] g c h d left)
+  refused_part : (x : Step) (old : Grid A) (cfg : SpanMap) (new : Grid A) (new_cfg : SpanMap) → Leaves is_blank text_of x old cfg new new_cfg → EachUntil (Does is_blank text_of) (Leaves is_blank text_of) (parts x) old cfg new new_cfg
+  refused_part (step.Both' _ first _ second) old cfg new new_cfg (inl left) =
+      let at = refused_part first old cfg new new_cfg left in
+      (at.0, until_first (Does is_blank text_of) (Leaves is_blank text_of) (parts first) (parts second) at.0 old cfg new new_cfg at.1)
+  refused_part (step.Both' _ first _ second) old cfg new new_cfg (inr (between, between_cfg, one, other)) =
+      let at = refused_part second between between_cfg new new_cfg other in
+      (length (parts first) + at.0, until_later (Does is_blank text_of) (Leaves is_blank text_of) (parts first) (parts second) at.0 (length (parts first) + at.0) old cfg between between_cfg new new_cfg refl (each_part first old cfg between between_cfg one) at.1)
+  refused_part x old cfg new new_cfg left = (0, first_refused (Does is_blank text_of) (Leaves is_blank text_of) x [] old cfg new new_cfg left)
 
   -- the splits before a refused part of a step are undone by gluing
-  pub undone_before : (steps : List Step) (k : ℕ) (g : Grid A) (c : SpanMap) (h : Grid A) (d : SpanMap) → IsEven g → RefusedAt is_blank text_of steps k g c h d → SplitsAreUndoneBefore is_blank text_of steps k g c h d
-  undone_before steps k g c h d even at =
-      let part = refused_part at.item at.grid at.configuration h d at.left.0 in
+  pub undone_before : (steps : List Step) (k : ℕ) (old : Grid A) (cfg : SpanMap) (new : Grid A) (new_cfg : SpanMap) → IsEven old → RefusedAt is_blank text_of steps k old cfg new new_cfg → SplitsAreUndoneBefore is_blank text_of steps k old cfg new new_cfg
+  undone_before steps k old cfg new new_cfg even at =
+      let part = refused_part at.item at.grid at.configuration new new_cfg at.left.0 in
       let cut = flattened_at steps k at.item at.is in
       let others = flattened (take k steps) in
-      let first = until_first (Does is_blank text_of) (Leaves is_blank text_of) (parts at.item) cut.0 part.0 at.grid at.configuration h d part.1 in
-      let later = until_later (Does is_blank text_of) (Leaves is_blank text_of) others (parts at.item ++ cut.0) part.0 (length others + part.0) g c at.grid at.configuration h d refl (each_flattened (take k steps) g c at.grid at.configuration at.before) first in
-      let until : EachUntilAt (Does is_blank text_of) (Leaves is_blank text_of) (flattened steps) (length others + part.0) g c h d = rw cut.1 later in
+      let first = until_first (Does is_blank text_of) (Leaves is_blank text_of) (parts at.item) cut.0 part.0 at.grid at.configuration new new_cfg part.1 in
+      let later = until_later (Does is_blank text_of) (Leaves is_blank text_of) others (parts at.item ++ cut.0) part.0 (length others + part.0) old cfg at.grid at.configuration new new_cfg refl (each_flattened (take k steps) old cfg at.grid at.configuration at.before) first in
+      let until : EachUntilAt (Does is_blank text_of) (Leaves is_blank text_of) (flattened steps) (length others + part.0) old cfg new new_cfg = rw cut.1 later in
       let many = slice_get_within (parts at.item) part.0 part.1.item part.1.is in
       let long = ap length cut.2 ∙ length-append others (parts at.item) in
       record {
@@ -73,5 +73,5 @@ module _ {A : Type 0} (is_blank : A → Type 0) (text_of : A → List ℕ) where
         not_before = omega arith;
         within = omega (arith, many, long);
         refused = until;
-        undone = λ first rest split are. undone_midway (take (length others + part.0) (flattened steps)) first rest split (state_of text_of g c) (state_of text_of until.grid until.configuration) (IsEven-map_grid text_of g even) are (after_each text_of is_blank (take (length others + part.0) (flattened steps)) g c until.grid until.configuration until.before);
+        undone = λ first rest split are. undone_midway (take (length others + part.0) (flattened steps)) first rest split (state_of text_of old cfg) (state_of text_of until.grid until.configuration) (IsEven-map_grid text_of old even) are (after_each text_of is_blank (take (length others + part.0) (flattened steps)) old cfg until.grid until.configuration until.before);
       }

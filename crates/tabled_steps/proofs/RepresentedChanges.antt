@@ -8,8 +8,8 @@ module _ {A : Type 0} (does leaves : Entity → Change A SpanMap) (local : IsLoc
     rows_are : g.rows ≡ rows
     columns_are : g.columns ≡ columns
 
-  has_then : (e : Entity) (g : Grid A) (c : SpanMap) (h : Grid A) (d : SpanMap) → Has g → does e g c h d → Has h
-  has_then e g c h d shape done = record { rows_are = local.rows e g c h d done ∙ shape.rows_are; columns_are = local.columns e g c h d done ∙ shape.columns_are }
+  has_then : (e : Entity) (old : Grid A) (cfg : SpanMap) (new : Grid A) (new_cfg : SpanMap) → Has old → does e old cfg new new_cfg → Has new
+  has_then e old cfg new new_cfg shape done = record { rows_are = local.rows e old cfg new new_cfg done ∙ shape.rows_are; columns_are = local.columns e old cfg new new_cfg done ∙ shape.columns_are }
 
   at_shape : (e f : Entity) (g : Grid A) → Has g → inside e rows columns ≡ inside f rows columns → inside e g.rows g.columns ≡ inside f g.rows g.columns
   at_shape e f g shape same = rw (shape.rows_are, shape.columns_are) same
@@ -19,15 +19,15 @@ module _ {A : Type 0} (does leaves : Entity → Change A SpanMap) (local : IsLoc
 
   -- what the changes for some entities lead to, those for others lead to
   abbrev Leads : List Entity → List Entity → Type 0
-  Leads representatives es = (g : Grid A) (c : SpanMap) (h : Grid A) (d : SpanMap) → Has g → Each does representatives g c h d → Each does es g c h d
+  Leads representatives es = (old : Grid A) (cfg : SpanMap) (new : Grid A) (new_cfg : SpanMap) → Has old → Each does representatives old cfg new new_cfg → Each does es old cfg new new_cfg
 
   -- and where they are refused
   abbrev Refuses : List Entity → List Entity → Type 0
-  Refuses representatives es = (g : Grid A) (c : SpanMap) (h : Grid A) (d : SpanMap) → Has g → EachUntil does (λ e. SameOr (leaves e)) representatives g c h d → EachUntil does (λ e. SameOr (leaves e)) es g c h d
+  Refuses representatives es = (old : Grid A) (cfg : SpanMap) (new : Grid A) (new_cfg : SpanMap) → Has old → EachUntil does (λ e. SameOr (leaves e)) representatives old cfg new new_cfg → EachUntil does (λ e. SameOr (leaves e)) es old cfg new new_cfg
 
-  left_at : (e f : Entity) (g : Grid A) (c : SpanMap) (h : Grid A) (d : SpanMap) → Has g → inside e rows columns ≡ inside f rows columns → SameOr (leaves f) g c h d → SameOr (leaves e) g c h d
-  left_at e f g c h d shape same (inl none) = inl none
-  left_at e f g c h d shape same (inr left) = inr (local.left_alike e f g c h d (at_shape e f g shape same) left)
+  left_at : (e f : Entity) (old : Grid A) (cfg : SpanMap) (new : Grid A) (new_cfg : SpanMap) → Has old → inside e rows columns ≡ inside f rows columns → SameOr (leaves f) old cfg new new_cfg → SameOr (leaves e) old cfg new new_cfg
+  left_at e f old cfg new new_cfg shape same (inl none) = inl none
+  left_at e f old cfg new new_cfg shape same (inr left) = inr (local.left_alike e f old cfg new new_cfg (at_shape e f old shape same) left)
 
   -- entities stand for others: each for the next of these, and one that names nothing for some more
   abbrev Stand : List Entity → List Entity → Type 0
@@ -35,40 +35,40 @@ module _ {A : Type 0} (does leaves : Entity → Change A SpanMap) (local : IsLoc
   Stand representatives (e ∷ es) = (f : Entity) × (fs : List Entity) × (representatives ≡ f ∷ fs) × (inside e rows columns ≡ inside f rows columns) × (Stand fs es ⊎ ((inside f rows columns ≡ []) × Stand (f ∷ fs) es))
 
   leads : (representatives es : List Entity) → Stand representatives es → Leads representatives es
-  leads representatives [] none g c h d shape did = rw none at did
-  leads representatives (e ∷ es) (f, fs, are, here, next) g c h d shape did =
-      let all : Each does (f ∷ fs) g c h d = rw are at did in
-      let m = all.0 in
-      let k = all.1 in
-      let kept = has_then f g c m k shape all.2 in (
-        m,
-        k,
-        local.alike e f g c m k (at_shape e f g shape here) all.2,
+  leads representatives [] none old cfg new new_cfg shape did = rw none at did
+  leads representatives (e ∷ es) (f, fs, are, here, next) old cfg new new_cfg shape did =
+      let all : Each does (f ∷ fs) old cfg new new_cfg = rw are at did in
+      let between = all.0 in
+      let between_cfg = all.1 in
+      let kept = has_then f old cfg between between_cfg shape all.2 in (
+        between,
+        between_cfg,
+        local.alike e f old cfg between between_cfg (at_shape e f old shape here) all.2,
         elim next [
-          | inl rest ↦ leads fs es rest m k h d kept all.3
-          | inr rest ↦ leads (f ∷ fs) es rest.1 m k h d kept (m, k, local.again f g c m k (none_at f g shape rest.0) all.2, all.3)
+          | inl rest ↦ leads fs es rest between between_cfg new new_cfg kept all.3
+          | inr rest ↦ leads (f ∷ fs) es rest.1 between between_cfg new new_cfg kept (between, between_cfg, local.again f old cfg between between_cfg (none_at f old shape rest.0) all.2, all.3)
         ],
       )
 
   refuses : (representatives es : List Entity) → Stand representatives es → Refuses representatives es
-  refuses representatives [] none g c h d shape until = rw none at until
-  refuses representatives (e ∷ es) (f, fs, are, here, next) g c h d shape until = refused_from_here (rw are at until) (λ m k first left. elim next [
-    | inl rest ↦ refuses fs es rest m k h d (has_then f g c m k shape first) left
-    | inr rest ↦ refuses (f ∷ fs) es rest.1 m k h d (has_then f g c m k shape first) (suc left.0, later_refused does (λ e. SameOr (leaves e)) f fs m k m k left.0 h d (local.again f g c m k (none_at f g shape rest.0) first) left.1)
+  refuses representatives [] none old cfg new new_cfg shape until = rw none at until
+  refuses representatives (e ∷ es) (f, fs, are, here, next) old cfg new new_cfg shape until = refused_from_here (rw are at until) (λ between between_cfg first left. elim next [
+    | inl rest ↦ refuses fs es rest between between_cfg new new_cfg (has_then f old cfg between between_cfg shape first) left
+    | inr rest ↦ refuses (f ∷ fs) es rest.1 between between_cfg new new_cfg (has_then f old cfg between between_cfg shape first) (suc left.0, later_refused does (λ e. SameOr (leaves e)) f fs between between_cfg between between_cfg left.0 new new_cfg (local.again f old cfg between between_cfg (none_at f old shape rest.0) first) left.1)
   ])
     where
-      refused : (x : Entity) → Some f ≡ Some x → (m : Grid A) (k : SpanMap) → Same g c m k → SameOr (leaves x) m k h d → SameOr (leaves e) g c h d
-      refused x is m k same left =
-          let at_first : SameOr (leaves f) g c h d = rw (same_Some f x is, ← same.0, ← same.1) left in
-          left_at e f g c h d shape here at_first
+      refused : (x : Entity) → Some f ≡ Some x → (between : Grid A) (between_cfg : SpanMap) → Same old cfg between between_cfg → SameOr (leaves x) between between_cfg new new_cfg → SameOr (leaves e) old cfg new new_cfg
+      refused x is between between_cfg same left =
+          let at_first : SameOr (leaves f) old cfg new new_cfg = rw (same_Some f x is, ← same.0, ← same.1) left in
+          left_at e f old cfg new new_cfg shape here at_first
 
-      refused_from_here : EachUntil does (λ e. SameOr (leaves e)) (f ∷ fs) g c h d → ((m : Grid A) (k : SpanMap) → does f g c m k → EachUntil does (λ e. SameOr (leaves e)) fs m k h d → EachUntil does (λ e. SameOr (leaves e)) es m k h d) → EachUntil does (λ e. SameOr (leaves e)) (e ∷ es) g c h d
-      refused_from_here (zero, at) later = (zero, first_refused does (λ e. SameOr (leaves e)) e es g c h d (refused at.item at.is at.grid at.configuration at.before at.left))
+      refused_from_here : EachUntil does (λ e. SameOr (leaves e)) (f ∷ fs) old cfg new new_cfg → ((between : Grid A) (between_cfg : SpanMap) → does f old cfg between between_cfg → EachUntil does (λ e. SameOr (leaves e)) fs between between_cfg new new_cfg → EachUntil does (λ e. SameOr (leaves e)) es between between_cfg new new_cfg) → EachUntil does (λ e. SameOr (leaves e)) (e ∷ es) old cfg new new_cfg
+      refused_from_here (zero, at) later = (zero, first_refused does (λ e. SameOr (leaves e)) e es old cfg new new_cfg (refused at.item at.is at.grid at.configuration at.before at.left))
       refused_from_here (suc i, at) later =
-          let m = at.before.0 in
-          let k = at.before.1 in
-          let rest = later m k at.before.2 (i, record { item = at.item; is = at.is; grid = at.grid; configuration = at.configuration; before = at.before.3; left = at.left }) in
-          (suc rest.0, later_refused does (λ e. SameOr (leaves e)) e es g c m k rest.0 h d (local.alike e f g c m k (at_shape e f g shape here) at.before.2) rest.1)
+          let between = at.before.0 in
+          let between_cfg = at.before.1 in
+          let rest = later between between_cfg at.before.2 (i, record { item = at.item; is = at.is; grid = at.grid; configuration = at.configuration; before = at.before.3; left = at.left }) in
+          (suc rest.0, later_refused does (λ e. SameOr (leaves e)) e es old cfg between between_cfg rest.0 new new_cfg (local.alike e f old cfg between between_cfg (at_shape e f old shape here) at.before.2) rest.1)
 
   -- a group's entity stands for those of the group
   stand_group : (f : Entity) (fs : List Entity) (places : List (List Position)) (n : ℕ) (es : List Entity) → named_places rows columns es ≡ replicate (suc n) (inside f rows columns) ++ places → (suc n ≡ 1) ⊎ (inside f rows columns ≡ []) → ((rest : List Entity) → named_places rows columns rest ≡ places → Stand fs rest) → Stand (f ∷ fs) es
@@ -89,14 +89,14 @@ module _ {A : Type 0} (does leaves : Entity → Change A SpanMap) (local : IsLoc
       let n = counted group each.0 in
       stand_group group.entity (representatives_of groups) (unrolled rows columns groups) n.0 es (same ∙ ap (λ k. replicate k (inside group.entity rows columns) ++ unrolled rows columns groups) n.1) n.2 (λ rest is. stand groups rest is each.1)
 
-module _ {A : Type 0} (text_of : A → List ℕ) (select : Select) (does leaves : Entity → Change A SpanMap) (local : IsLocal does leaves) (g : Grid A) (c : SpanMap) (h : Grid A) (d : SpanMap) where
+module _ {A : Type 0} (text_of : A → List ℕ) (select : Select) (does leaves : Entity → Change A SpanMap) (local : IsLocal does leaves) (old : Grid A) (cfg : SpanMap) (new : Grid A) (new_cfg : SpanMap) where
   -- a change for each entity that stands for named ones is one for each named entity
-  pub represented : EachListed (AreRepresentatives text_of select) does g c h d → EachListed (Names text_of select) does g c h d
+  pub represented : EachListed (AreRepresentatives text_of select) does old cfg new new_cfg → EachListed (Names text_of select) does old cfg new new_cfg
   represented (representatives, (groups, grouped, are), each) =
-      (selected (map_grid text_of g) select, refl, leads does leaves local g.rows g.columns (representatives_of groups) (selected (map_grid text_of g) select) (stand does leaves local g.rows g.columns groups _ grouped.same grouped.each) g c h d (record { rows_are = refl; columns_are = refl }) (subst (λ es. Each does es g c h d) are each))
+      (selected (map_grid text_of old) select, refl, leads does leaves local old.rows old.columns (representatives_of groups) (selected (map_grid text_of old) select) (stand does leaves local old.rows old.columns groups _ grouped.same grouped.each) old cfg new new_cfg (record { rows_are = refl; columns_are = refl }) (subst (λ es. Each does es old cfg new new_cfg) are each))
 
   -- and so it is where it is refused
-  pub represented_refused : SameOr (EachListedUntil (AreRepresentatives text_of select) does (λ e. SameOr (leaves e))) g c h d → LeavesFirst text_of select does leaves g c h d
+  pub represented_refused : SameOr (EachListedUntil (AreRepresentatives text_of select) does (λ e. SameOr (leaves e))) old cfg new new_cfg → LeavesFirst text_of select does leaves old cfg new new_cfg
   represented_refused (inl none) = inl none
   represented_refused (inr (representatives, (groups, grouped, are), until)) =
-      inr (selected (map_grid text_of g) select, refl, refuses does leaves local g.rows g.columns (representatives_of groups) (selected (map_grid text_of g) select) (stand does leaves local g.rows g.columns groups _ grouped.same grouped.each) g c h d (record { rows_are = refl; columns_are = refl }) (subst (λ es. EachUntil does (λ e. SameOr (leaves e)) es g c h d) are until))
+      inr (selected (map_grid text_of old) select, refl, refuses does leaves local old.rows old.columns (representatives_of groups) (selected (map_grid text_of old) select) (stand does leaves local old.rows old.columns groups _ grouped.same grouped.each) old cfg new new_cfg (record { rows_are = refl; columns_are = refl }) (subst (λ es. EachUntil does (λ e. SameOr (leaves e)) es old cfg new new_cfg) are until))

@@ -45,26 +45,26 @@ cells_alike text_of x y g make lhs rhs a b items first second left right is =
     (ap (λ es. flat es g.rows g.columns) left ∙ flat-represented text_of x g lhs first)
     (ap (λ es. flat es g.rows g.columns) right ∙ flat-represented text_of y g rhs second)
 
-module _ {A : Type 0} (text_of : A → List ℕ) (destination source : Select) (g : Grid A) (c : SpanMap) (h : Grid A) (d : SpanMap) where
+module _ {A : Type 0} (text_of : A → List ℕ) (destination source : Select) (old : Grid A) (cfg : SpanMap) (new : Grid A) (new_cfg : SpanMap) where
   abbrev texts : Grid (List ℕ)
-  texts = map_grid text_of g
+  texts = map_grid text_of old
 
-  source-alike : (sources : List Entity) → AreRepresentatives text_of source g sources → source_texts texts sources ≡ source_texts texts (selected texts source)
-  source-alike sources (groups, grouped, are) = ap (map (text_at texts)) (flat-alike g.rows g.columns (selected texts source) groups sources are grouped)
+  source-alike : (sources : List Entity) → AreRepresentatives text_of source old sources → source_texts texts sources ≡ source_texts texts (selected texts source)
+  source-alike sources (groups, grouped, are) = ap (map (text_at texts)) (flat-alike old.rows old.columns (selected texts source) groups sources are grouped)
 
-  round-alike : (found : List (List ℕ)) (targets : List Entity) → AreRepresentatives text_of destination g targets → rounds found g.rows g.columns targets ≡ rounds found g.rows g.columns (selected texts destination)
+  round-alike : (found : List (List ℕ)) (targets : List Entity) → AreRepresentatives text_of destination old targets → rounds found old.rows old.columns targets ≡ rounds found old.rows old.columns (selected texts destination)
   round-alike [] targets stand = refl
-  round-alike (text ∷ found) targets (groups, grouped, are) = ap (round_writes (text ∷ found) g.rows g.columns) are ∙ made-alike (round_from 0 (text ∷ found)) refl g.rows g.columns (selected texts destination) groups grouped
+  round-alike (text ∷ found) targets (groups, grouped, are) = ap (round_writes (text ∷ found) old.rows old.columns) are ∙ made-alike (round_from 0 (text ∷ found)) refl old.rows old.columns (selected texts destination) groups grouped
 
   -- the writes are those of the named entities
-  writes-alike : (sources targets : List Entity) → AreRepresentatives text_of source g sources → rounds (source_texts texts sources) g.rows g.columns targets ≡ rounds (source_texts texts sources) g.rows g.columns (selected texts destination) → dup_writes sources targets texts ≡ dup_writes (selected texts source) (selected texts destination) texts
-  writes-alike sources targets stand aim = aim ∙ ap (λ found. rounds found g.rows g.columns (selected texts destination)) (source-alike sources stand)
+  writes-alike : (sources targets : List Entity) → AreRepresentatives text_of source old sources → rounds (source_texts texts sources) old.rows old.columns targets ≡ rounds (source_texts texts sources) old.rows old.columns (selected texts destination) → dup_writes sources targets texts ≡ dup_writes (selected texts source) (selected texts destination) texts
+  writes-alike sources targets stand aim = aim ∙ ap (λ found. rounds found old.rows old.columns (selected texts destination)) (source-alike sources stand)
 
-  pub duplicated_represented : Duplicates text_of (AreRepresentatives text_of destination) (AreRepresentatives text_of source) g c h d → Duplicates text_of (Names text_of destination) (Names text_of source) g c h d
+  pub duplicated_represented : Duplicates text_of (AreRepresentatives text_of destination) (AreRepresentatives text_of source) old cfg new new_cfg → Duplicates text_of (Names text_of destination) (Names text_of source) old cfg new new_cfg
   duplicated_represented (sources, targets, stand, aimed, did) =
       (selected texts source, selected texts destination, refl, refl, (did.0 ∙ ap (λ ws. with_writes ws texts) (writes-alike sources targets stand (round-alike (source_texts texts sources) targets aimed)), did.1))
 
-  pub duplicated_represented_refused : DuplicatesFirst text_of (AreRepresentatives text_of destination) (AreRepresentatives text_of source) g c h d → DuplicatesFirst text_of (Names text_of destination) (Names text_of source) g c h d
+  pub duplicated_represented_refused : DuplicatesFirst text_of (AreRepresentatives text_of destination) (AreRepresentatives text_of source) old cfg new new_cfg → DuplicatesFirst text_of (Names text_of destination) (Names text_of source) old cfg new new_cfg
   duplicated_represented_refused (inl none) = inl none
   duplicated_represented_refused (inr (sources, targets, stand, aimed, first)) =
-      inr (selected texts source, selected texts destination, refl, refl, (subst (λ ws. FirstWrites ws texts (map_grid text_of h)) (writes-alike sources targets stand (round-alike (source_texts texts sources) targets aimed)) first.0, first.1))
+      inr (selected texts source, selected texts destination, refl, refl, (subst (λ ws. FirstWrites ws texts (map_grid text_of new)) (writes-alike sources targets stand (round-alike (source_texts texts sources) targets aimed)) first.0, first.1))

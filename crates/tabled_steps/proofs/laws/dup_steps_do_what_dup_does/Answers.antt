@@ -6,13 +6,13 @@ returns g c = record {
   acts =
       let text_of = g.R.Cell.CellText.text_of in
       λ destination source to from. record {
-        done = λ k m h d. (
-          duplicates text_of _ _ _ _ (λ k items. (to k items).1) (λ k items. (from k items).1) k m h d,
-          duplicates text_of _ _ _ _ (λ k items. (to k items).0) (λ k items. (from k items).0) k m h d,
+        done = λ old cfg new new_cfg. (
+          duplicates text_of _ _ _ _ (λ k items. (to k items).1) (λ k items. (from k items).1) old cfg new new_cfg,
+          duplicates text_of _ _ _ _ (λ k items. (to k items).0) (λ k items. (from k items).0) old cfg new new_cfg,
         );
-        refused = λ k m h d. (
-          duplicates_first text_of _ _ _ _ (λ k items. (to k items).1) (λ k items. (from k items).1) k m h d,
-          duplicates_first text_of _ _ _ _ (λ k items. (to k items).0) (λ k items. (from k items).0) k m h d,
+        refused = λ old cfg new new_cfg. (
+          duplicates_first text_of _ _ _ _ (λ k items. (to k items).1) (λ k items. (from k items).1) old cfg new new_cfg,
+          duplicates_first text_of _ _ _ _ (λ k items. (to k items).0) (λ k items. (from k items).0) old cfg new new_cfg,
         );
       };
 }

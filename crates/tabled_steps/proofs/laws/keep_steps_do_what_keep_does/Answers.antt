@@ -8,17 +8,17 @@ returns g c =
     let text_of = g.R.Cell.CellText.text_of in
     record {
       rows = λ names lines alike. rw lines (record {
-        done = λ k m h d. (
-          finds_kept Rows locates (λ k. all_rows_named names (map_grid text_of k)) alike k m h d,
-          kept_found Rows locates (λ k. all_rows_named names (map_grid text_of k)) alike k m h d,
+        done = λ old cfg new new_cfg. (
+          finds_kept Rows locates (λ k. all_rows_named names (map_grid text_of k)) alike old cfg new new_cfg,
+          kept_found Rows locates (λ k. all_rows_named names (map_grid text_of k)) alike old cfg new new_cfg,
         );
-        refused = λ k m h d. ((λ left. left), λ left. left);
+        refused = λ old cfg new new_cfg. ((λ left. left), λ left. left);
       });
       columns = λ names lines alike. rw lines (record {
-        done = λ k m h d. (
-          finds_kept Columns locates (λ k. all_columns_named names (map_grid text_of k)) alike k m h d,
-          kept_found Columns locates (λ k. all_columns_named names (map_grid text_of k)) alike k m h d,
+        done = λ old cfg new new_cfg. (
+          finds_kept Columns locates (λ k. all_columns_named names (map_grid text_of k)) alike old cfg new new_cfg,
+          kept_found Columns locates (λ k. all_columns_named names (map_grid text_of k)) alike old cfg new new_cfg,
         );
-        refused = λ k m h d. ((λ left. left), λ left. left);
+        refused = λ old cfg new new_cfg. ((λ left. left), λ left. left);
       });
     }

@@ -8,24 +8,24 @@ returns g c =
     let text_of = g.R.Cell.CellText.text_of in
     record {
       rows = λ a b lines alike. rw lines (record {
-        done = λ k m h d. (
-          finds_removed Rows locates (λ k. indexes (half_open a b) (count_along Rows k)) alike k m h d,
-          removed_found Rows locates (λ k. indexes (half_open a b) (count_along Rows k)) alike k m h d,
+        done = λ old cfg new new_cfg. (
+          finds_removed Rows locates (λ k. indexes (half_open a b) (count_along Rows k)) alike old cfg new new_cfg,
+          removed_found Rows locates (λ k. indexes (half_open a b) (count_along Rows k)) alike old cfg new new_cfg,
         );
-        refused = λ k m h d. ((λ left. left), λ left. left);
+        refused = λ old cfg new new_cfg. ((λ left. left), λ left. left);
       });
       columns = λ a b lines alike. rw lines (record {
-        done = λ k m h d. (
-          finds_removed Columns locates (λ k. indexes (half_open a b) (count_along Columns k)) alike k m h d,
-          removed_found Columns locates (λ k. indexes (half_open a b) (count_along Columns k)) alike k m h d,
+        done = λ old cfg new new_cfg. (
+          finds_removed Columns locates (λ k. indexes (half_open a b) (count_along Columns k)) alike old cfg new new_cfg,
+          removed_found Columns locates (λ k. indexes (half_open a b) (count_along Columns k)) alike old cfg new new_cfg,
         );
-        refused = λ k m h d. ((λ left. left), λ left. left);
+        refused = λ old cfg new new_cfg. ((λ left. left), λ left. left);
       });
       named = λ name lines alike. rw lines (record {
-        done = λ k m h d. (
-          finds_removed Columns locates (λ k. columns_with (string_bytes name) (map_grid text_of k)) alike k m h d,
-          removed_found Columns locates (λ k. columns_with (string_bytes name) (map_grid text_of k)) alike k m h d,
+        done = λ old cfg new new_cfg. (
+          finds_removed Columns locates (λ k. columns_with (string_bytes name) (map_grid text_of k)) alike old cfg new new_cfg,
+          removed_found Columns locates (λ k. columns_with (string_bytes name) (map_grid text_of k)) alike old cfg new new_cfg,
         );
-        refused = λ k m h d. ((λ left. left), λ left. left);
+        refused = λ old cfg new new_cfg. ((λ left. left), λ left. left);
       });
     }

@@ -16,11 +16,11 @@ loop-step-preserved g c =
       well = c.change.ensures.well;
       counted = omega (arith, lengths, c.in-Some.ensures.steps.1, c.loop-step.invariant.counted);
       many = omega (arith, lengths, c.loop-step.invariant.many);
-      does = λ h d e. c.loop-step.invariant.does h d (rw items (_, _, c.in_default.ensures.ok, e));
-      until = λ k h d e.
-          let next = later_refused _ _ _ _ _ _ _ _ k h d c.in_default.ensures.ok e in
+      does = λ new new_cfg e. c.loop-step.invariant.does new new_cfg (rw items (_, _, c.in_default.ensures.ok, e));
+      until = λ k new new_cfg e.
+          let next = later_refused _ _ _ _ _ _ _ _ k new new_cfg c.in_default.ensures.ok e in
           let same : c.loop-step.index + suc k ≡ (c.loop-step.index + 1) + k = omega arith in
-          let until = c.loop-step.invariant.until (suc k) h d (rw items next) in
+          let until = c.loop-step.invariant.until (suc k) new new_cfg (rw items next) in
           (rw same at until);
     }
 

@@ -12,6 +12,6 @@ invariant-loop-step g l =
       well : g.R.GridStore.is_well_formed l.records;
       counted : into_iter_len l.step-iterator ≡ length (into_iter_items l.step-iterator);
       many : l.index + length (into_iter_items l.step-iterator) ≡ length l.fn.steps.items;
-      does : (h : _) (d : _) → Each (Does is_blank text_of) (into_iter_items l.step-iterator) (grid l.records) l.cfg h d → Each (Does is_blank text_of) l.fn.steps.items (grid l.fn.records) l.fn.cfg h d;
-      until : (k : ℕ) (h : _) (d : _) → EachUntilAt (Does is_blank text_of) (Refused is_blank text_of) (into_iter_items l.step-iterator) k (grid l.records) l.cfg h d → EachUntilAt (Does is_blank text_of) (Refused is_blank text_of) l.fn.steps.items (l.index + k) (grid l.fn.records) l.fn.cfg h d;
+      does : (new : _) (new_cfg : _) → Each (Does is_blank text_of) (into_iter_items l.step-iterator) (grid l.records) l.cfg new new_cfg → Each (Does is_blank text_of) l.fn.steps.items (grid l.fn.records) l.fn.cfg new new_cfg;
+      until : (k : ℕ) (new : _) (new_cfg : _) → EachUntilAt (Does is_blank text_of) (Refused is_blank text_of) (into_iter_items l.step-iterator) k (grid l.records) l.cfg new new_cfg → EachUntilAt (Does is_blank text_of) (Refused is_blank text_of) l.fn.steps.items (l.index + k) (grid l.fn.records) l.fn.cfg new new_cfg;
     }
