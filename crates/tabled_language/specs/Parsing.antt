@@ -18,8 +18,8 @@ use Rattle.tabled_language.specs.declared.fault.ParseError.TheVariants as parse_
 use Rattle.tabled_language.specs.declared.fault.LineError.{LineError}
 use Rattle.tabled_language.specs.declared.fault.LineError.TheVariants.{Faulty, OutOfMemory}
 use Rattle.tabled_language.specs.declared.lent.LentText.{LentText}
-use Rattle.tabled_language.specs.declared.line_words.Lines.{Lines}
-use Rattle.tabled_language.specs.declared.line_words.Lines.TheVariants.{At, Between}
+use Rattle.tabled_language.specs.declared.line_words.ToldLines.{ToldLines}
+use Rattle.tabled_language.specs.declared.line_words.ToldLines.TheVariants.{At, Between}
 use Rattle.tabled_language.specs.declared.line_words.Operator.{Operator}
 use Rattle.tabled_language.specs.declared.line_words.Operator.TheVariants as operator
 use Rattle.tabled_language.specs.declared.line_words.RowTest.{RowTest}
@@ -61,7 +61,7 @@ abbrev pub TakesWords : {A X : Type 0} → (X → A) → A → List (List ℕ) �
 TakesWords view taken left result new = MatchResult result (λ x. (view x ≡ taken) × (new ≡ left)) (λ error. error ≡ OutOfMemory)
 
 -- the lines, of n, that an index or a slice in memory tells
-abbrev pub lines_in : Lines → ℕ → List ℕ
+abbrev pub lines_in : ToldLines → ℕ → List ℕ
 lines_in (At index) = counted index
 lines_in (Between from to) = sliced from to
 
@@ -80,7 +80,7 @@ is_tested operator.IsNot other = λ text. not (is_text other text)
 is_tested (operator.Compares how) number = is_number how number
 
 -- the columns that these are
-abbrev pub columns_in : Lines → NamedLines
+abbrev pub columns_in : ToldLines → NamedLines
 columns_in lines g = lines_in lines g.columns
 
 -- the rows that pass a test in memory

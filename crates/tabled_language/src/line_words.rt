@@ -19,7 +19,7 @@ use tabled_settings::text_test::{Comparison, TextTest};
 
 /// Lines that are told without the table's texts.
 #[derive(Clone, Copy)]
-pub(crate) enum Lines {
+pub(crate) enum ToldLines {
     /// One, counted from either end.
     At(Offset),
     /// Those from one up to another.
@@ -45,7 +45,7 @@ pub(crate) struct RowTest<'a> {
 /// Rows as a word tells them.
 #[derive(Clone, Copy)]
 pub(crate) enum RowWord<'a> {
-    Lines(Lines),
+    Lines(ToldLines),
     Where(RowTest<'a>),
 }
 
@@ -63,12 +63,12 @@ pub(crate) fn column_name(alloc: Global, word: &str) -> Result<ColumnName, Alloc
 }
 
 /// A name of columns that are told without texts.
-fn column_of_lines(lines: Lines) -> ColumnName
+fn column_of_lines(lines: ToldLines) -> ColumnName
     ensures { column_lines result ≡ columns_in lines }
 {
     match lines {
-        Lines::At(index) => ColumnName::At(index),
-        Lines::Between(from, to) => ColumnName::Between(from, to),
+        ToldLines::At(index) => ColumnName::At(index),
+        ToldLines::Between(from, to) => ColumnName::Between(from, to),
     }
 }
 
@@ -87,8 +87,8 @@ pub(crate) fn row_name(alloc: Global, word: RowWord<'_>) -> Result<RowName, Allo
     ensures { IfOk result (λ name. row_lines name ≡ rows_in word.entry) }
 {
     match word {
-        RowWord::Lines(Lines::At(index)) => Ok(RowName::At(index)),
-        RowWord::Lines(Lines::Between(from, to)) => Ok(RowName::Between(from, to)),
+        RowWord::Lines(ToldLines::At(index)) => Ok(RowName::At(index)),
+        RowWord::Lines(ToldLines::Between(from, to)) => Ok(RowName::Between(from, to)),
         RowWord::Where(test) => {
             let title = String::from_str(alloc, test.title)?;
             let value = String::from_str(alloc, test.value)?;
@@ -111,16 +111,16 @@ pub(crate) fn sort_column(alloc: Global, word: &str) -> Result<SortColumn, Alloc
 }
 
 /// The lines that an index or a slice tells.
-fn lines_of(word: &str) -> Option<Lines>
+fn lines_of(word: &str) -> Option<ToldLines>
     ensures { option_map lines_in result ≡ lines_told word.now }
 {
     match word.split_once(':') {
         Some((from, to)) => {
             let start = bound_of(Offset::Start(0), from)?;
             let end = bound_of(Offset::End(0), to)?;
-            Some(Lines::Between(start, end))
+            Some(ToldLines::Between(start, end))
         }
-        None => Some(Lines::At(index_of(word)?)),
+        None => Some(ToldLines::At(index_of(word)?)),
     }
 }
 

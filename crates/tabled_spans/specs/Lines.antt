@@ -13,8 +13,8 @@ use Rattle.tabled_grid.specs.declared.records.axis.Axis.{Axis}
 use Rattle.tabled_grid.specs.declared.records.axis.Axis.TheVariants.{Rows, Columns}
 use Rattle.tabled_spans.specs.RunSteps.{IsOfRun}
 use Rattle.tabled_spans.specs.Runs.{IsRun, MergesRuns, size_of_run}
-use Rattle.tabled_spans.specs.declared.merge.lines.Lines.{Lines}
-use Rattle.tabled_spans.specs.declared.merge.lines.Lines.TheVariants.{Nothing, Of, Marked}
+use Rattle.tabled_spans.specs.declared.merge.lines.NamedLines.{NamedLines}
+use Rattle.tabled_spans.specs.declared.merge.lines.NamedLines.TheVariants.{Nothing, Of, Marked}
 
 -- the runs of one entity are merged after those of another
 abbrev pub MergesEach : Axis → List Entity → Grid (List ℕ) → SpanMap → SpanMap → Type 0
@@ -33,18 +33,18 @@ abbrev pub is_named_by : Axis → List Entity → ℕ → Bool
 is_named_by axis es line = list_any (λ e. names_line axis e line) es
 
 -- the line is one of these
-abbrev pub is_among : Axis → Lines → ℕ → Bool
+abbrev pub is_among : Axis → NamedLines → ℕ → Bool
 is_among axis Nothing line = false
 is_among axis (Of e) line = names_line axis e line
 is_among axis (Marked marks) line = get_or marks.items line false
 
 -- marks are n
-abbrev pub AreMany : ℕ → Lines → Type 0
+abbrev pub AreMany : ℕ → NamedLines → Type 0
 AreMany many (Marked marks) = length marks.items ≡ many
 AreMany many lines = Unit {0}
 
 -- lines of n are those that some entities name whole
-abbrev pub AreNamedBy : Axis → ℕ → List Entity → Lines → Type 0
+abbrev pub AreNamedBy : Axis → ℕ → List Entity → NamedLines → Type 0
 AreNamedBy axis many es lines = (line : ℕ) → line < many → is_among axis lines line ≡ is_named_by axis es line
 
 -- the line of a place

@@ -10,7 +10,7 @@ ghost use Rattle.tabled_grid.specs.declared.config.entity.Entity.{Entity};
 ghost use Rattle.tabled_spans.specs.Lines.{AreMany, MergesEach, RunsIn, is_among, line_at};
 
 use crate::merge::block::{block_of_lines, has_neighbours};
-use crate::merge::lines::{Lines, marked_range};
+use crate::merge::lines::{NamedLines, marked_range};
 use crate::merge::runs::{runs_in_block, runs_of};
 use std::alloc::{AllocError, Global};
 use tabled_grid::config::{Entity, Rectangle, SpannedConfig};
@@ -43,8 +43,8 @@ where
     if !has_neighbours(axis, size) {
         return Ok(());
     }
-    let lines = Lines::named_by(alloc, axis, axis.across().count(records), entities)?;
-    if let Lines::Nothing = lines {
+    let lines = NamedLines::named_by(alloc, axis, axis.across().count(records), entities)?;
+    if let NamedLines::Nothing = lines {
         return Ok(());
     }
     let sizes = runs_in(alloc, records, cfg, axis, &lines)?;
@@ -58,7 +58,7 @@ fn runs_in<R>(
     records: &R,
     cfg: &SpannedConfig,
     axis: Axis,
-    lines: &Lines,
+    lines: &NamedLines,
 ) -> Result<Vec<Rectangle>, AllocError>
 where
     R: Records + ExactRecords + PeekableRecords,
@@ -68,9 +68,9 @@ where
     ensures { IfOk result (λ sizes. RunsIn axis (is_among axis lines.now) (map_grid R.Cell.text_of (R.grid records.now)) cfg.now sizes.items) }
 {
     match lines {
-        Lines::Nothing => Ok(Vec::new(alloc)),
-        Lines::Of(entity) => runs_of(alloc, records, cfg, axis, *entity),
-        Lines::Marked(marks) => runs_marked(alloc, records, cfg, axis, marks),
+        NamedLines::Nothing => Ok(Vec::new(alloc)),
+        NamedLines::Of(entity) => runs_of(alloc, records, cfg, axis, *entity),
+        NamedLines::Marked(marks) => runs_marked(alloc, records, cfg, axis, marks),
     }
 }
 

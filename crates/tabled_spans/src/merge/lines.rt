@@ -4,7 +4,7 @@ ghost use Rattle.std.specs.Prelude.{◌≡◌, ◌<◌, ◌≤◌, ◌+◌, ◌&
 ghost use Rattle.std.specs.Iterator.{AlwaysYields, IsFinite};
 ghost use Rattle.tabled_grid.specs.declared.config.entity.Entity.{Entity};
 ghost use Rattle.tabled_spans.specs.Lines.{AreMany, AreNamedBy, is_among, names_line};
-ghost use Rattle.tabled_spans.specs.declared.merge.lines.Lines.TheVariants.{Nothing};
+ghost use Rattle.tabled_spans.specs.declared.merge.lines.NamedLines.TheVariants.{Nothing};
 
 use std::alloc::{AllocError, Global};
 use tabled_grid::config::Entity;
@@ -13,7 +13,7 @@ use tabled_grid::records::Axis;
 /// Some of the lines of a table: of its columns where runs go along the rows, of its rows where they go along
 /// the columns.
 #[derive(Drop)]
-pub(super) enum Lines {
+pub(super) enum NamedLines {
     /// None.
     Nothing,
     /// Those that one entity names whole. They take no memory.
@@ -22,7 +22,7 @@ pub(super) enum Lines {
     Marked(Vec<bool>),
 }
 
-impl Lines {
+impl NamedLines {
     /// Those of the first n lines that some entities name whole.
     ///
     /// It takes memory for the marks alone, and none for the lines of one entity.
@@ -40,7 +40,7 @@ impl Lines {
         ensures named { (items : List Entity) → AlwaysYields I.next_gives (λ e. e) entities items → IfOk result (λ lines. AreNamedBy axis many items lines) }
         ensures nothing { AlwaysYields I.next_gives (λ e. e) entities [] → result ≡ Ok Nothing }
     {
-        let mut lines = Lines::Nothing;
+        let mut lines = NamedLines::Nothing;
         let mut entities = entities;
         while let Some(entity) = entities.next() {
             lines = lines.with(alloc, axis, many, entity)?;
@@ -65,12 +65,12 @@ impl Lines {
             return Ok(self);
         }
         let mut marks = match self {
-            Lines::Nothing => return Ok(Lines::Of(entity)),
-            Lines::Of(first) => marks_of(alloc, axis, many, first)?,
-            Lines::Marked(marks) => marks,
+            NamedLines::Nothing => return Ok(NamedLines::Of(entity)),
+            NamedLines::Of(first) => marks_of(alloc, axis, many, first)?,
+            NamedLines::Marked(marks) => marks,
         };
         mark(&mut marks, axis, entity);
-        Ok(Lines::Marked(marks))
+        Ok(NamedLines::Marked(marks))
     }
 }
 

@@ -2,7 +2,7 @@ use Rattle.std.specs.Prelude.{false}
 use Rattle.tabled_spans.proofs.Common.{[], ◌<◌, ◌∙◌, ◌≡◌, AllByRecursion, AreSorted, HasArea, across, ap, count_along, map_grid, subst, sym, with_sizes, ℕ}
 use Rattle.tabled_spans.proofs.MergeEach.{listed_merged, no_neighbours, none_in, none_merged_each, runs_full, same_lines}
 use Rattle.tabled_spans.specs.Lines.{MergesEach, is_among, is_named_by}
-use Rattle.tabled_spans.specs.declared.merge.lines.Lines.{Lines}
+use Rattle.tabled_spans.specs.declared.merge.lines.NamedLines.{NamedLines}
 use Rattle.tabled_spans.proofs.merge.each.merge_each.Goals as goal
 
 pub returns-then-not-has_neighbours-clause-ok : goal.returns-then-not-has_neighbours-clause-ok
@@ -14,7 +14,7 @@ pub returns-in-Nothing-clause-ok : goal.returns-in-Nothing-clause-ok
 returns-in-Nothing-clause-ok g c = λ items gives.
     let texts = map_grid g.R.Cell.CellText.text_of (g.R.GridStore.grid c.args.records.now) in
     let same : (line : ℕ) → line < count_along (across c.args.axis) texts → false ≡ is_named_by c.args.axis items line = λ line within.
-    subst (λ (lines : Lines). is_among c.args.axis lines line ≡ is_named_by c.args.axis items line) c.in-Nothing.is (c.in_ok-lines.ensures.named items gives line (same_lines g.R.Cell.CellText.text_of c.args.axis c.across.result (g.R.GridStore.grid c.args.records.now) c.count.result line c.across.ensures c.count.ensures.count within)) in
+    subst (λ (lines : NamedLines). is_among c.args.axis lines line ≡ is_named_by c.args.axis items line) c.in-Nothing.is (c.in_ok-lines.ensures.named items gives line (same_lines g.R.Cell.CellText.text_of c.args.axis c.across.result (g.R.GridStore.grid c.args.records.now) c.count.result line c.across.ensures c.count.ensures.count within)) in
     listed_merged c.args.axis texts (λ _. false) items c.args.cfg.now [] same (none_in c.args.axis texts c.args.cfg.now)
 
 pub set_sizes-requires : goal.set_sizes-requires

@@ -3,7 +3,7 @@ use Rattle.tabled_options.proofs.Turns.{last_at, turn}
 use Rattle.tabled_spans.proofs.Common.{[], ◌∙◌, ◌∷◌, ◌≡◌, Bool, Entity, List, ap, refl, sym}
 use Rattle.tabled_spans.proofs.Marks.{or_false, or_or}
 use Rattle.tabled_spans.specs.Lines.{is_among, is_named_by, names_line}
-use Rattle.tabled_spans.proofs.merge.lines.Lines.named_by.Goals as goal
+use Rattle.tabled_spans.proofs.merge.lines.NamedLines.named_by.Goals as goal
 
 pub loop-entity-preserved : goal.loop-entity-preserved
 loop-entity-preserved g c = record {

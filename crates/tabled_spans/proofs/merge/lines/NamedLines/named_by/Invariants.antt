@@ -2,8 +2,8 @@ use Rattle.std.proofs.Common.{◌||◌}
 use Rattle.std.specs.Iterator.{AlwaysYields}
 use Rattle.tabled_spans.proofs.Common.{[], ◌<◌, ◌≡◌, Entity, List, ℕ}
 use Rattle.tabled_spans.specs.Lines.{AreMany, is_among, is_named_by}
-use Rattle.tabled_spans.specs.declared.merge.lines.Lines.TheVariants.{Nothing}
-use Rattle.tabled_spans.proofs.merge.lines.Lines.named_by.Given as goal
+use Rattle.tabled_spans.specs.declared.merge.lines.NamedLines.TheVariants.{Nothing}
+use Rattle.tabled_spans.proofs.merge.lines.NamedLines.named_by.Given as goal
 
 abbrev pub invariant-loop-entity : goal.invariant-loop-entity
 invariant-loop-entity g l = record {
