@@ -6,9 +6,9 @@ use Rattle.tabled_csv.proofs.Fielding.{left-within, no-field}
 use Rattle.tabled_csv.specs.Faults.{AreParted, FaultAt, FaultIn, IsFront}
 use Rattle.tabled_csv.specs.declared.fault.Fault.{Fault}
 use Rattle.tabled_csv.specs.Fields.{BlankAt, FieldAt}
-use Rattle.tabled_csv.specs.declared.fault.Unread.{Unread}
-use Rattle.tabled_csv.specs.declared.fault.Unread.TheVariants.{Faulty, OutOfMemory}
-use Rattle.tabled_csv.specs.Reading.{UnreadAt, LinesFault, RecordAt, RecordFault}
+use Rattle.tabled_csv.specs.declared.fault.PartError.{PartError}
+use Rattle.tabled_csv.specs.declared.fault.PartError.TheVariants.{Faulty, OutOfMemory}
+use Rattle.tabled_csv.specs.Reading.{Shows, LinesFault, RecordAt, RecordFault}
 use Rattle.tabled_csv.specs.declared.stop.Stop.TheVariants.{Separator}
 
 -- ---- the fields of a record
@@ -232,7 +232,7 @@ no-bytes (b ∷ bytes) e =
     absurd (omega arith)
 
 -- ---- what an error tells
-pub faulty-at : (P Q : Fault → ℕ → Type 0) (e : Unread) → ((fault : Fault) (left : ℕ) → P fault left → Q fault left) → UnreadAt P e → UnreadAt Q e
+pub faulty-at : (P Q : Fault → ℕ → Type 0) (e : PartError) → ((fault : Fault) (left : ℕ) → P fault left → Q fault left) → Shows P e → Shows Q e
 faulty-at P Q (Faulty fault left) f p = f fault left p
 faulty-at P Q OutOfMemory f p = p
 

@@ -108,29 +108,29 @@ impl From<WriteError> for io::Error {
 
 /// Why a part of bytes was not read: a fault, and how many bytes are left where it shows.
 #[derive(Clone, Copy, Debug, PartialEq, Eq)]
-pub(crate) enum Unread {
+pub(crate) enum PartError {
     Faulty(Fault, usize),
     OutOfMemory,
 }
 
-impl From<AllocError> for Unread {
+impl From<AllocError> for PartError {
     ghost use Rattle.std.specs.Prelude.{◌≡◌};
-    ghost use Rattle.tabled_csv.specs.declared.fault.Unread.TheVariants.{OutOfMemory};
+    ghost use Rattle.tabled_csv.specs.declared.fault.PartError.TheVariants.{OutOfMemory};
 
     ghost from_gives = { λ _ e. e ≡ OutOfMemory };
 
-    fn from(_refused: AllocError) -> Unread {
-        Unread::OutOfMemory
+    fn from(_refused: AllocError) -> PartError {
+        PartError::OutOfMemory
     }
 }
 
-impl<T: Drop> From<AllocFailed<T>> for Unread {
+impl<T: Drop> From<AllocFailed<T>> for PartError {
     ghost use Rattle.std.specs.Prelude.{◌≡◌};
-    ghost use Rattle.tabled_csv.specs.declared.fault.Unread.TheVariants.{OutOfMemory};
+    ghost use Rattle.tabled_csv.specs.declared.fault.PartError.TheVariants.{OutOfMemory};
 
     ghost from_gives = { λ _ e. e ≡ OutOfMemory };
 
-    fn from(_refused: AllocFailed<T>) -> Unread {
-        Unread::OutOfMemory
+    fn from(_refused: AllocFailed<T>) -> PartError {
+        PartError::OutOfMemory
     }
 }

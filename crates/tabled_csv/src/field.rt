@@ -6,10 +6,10 @@ ghost use Rattle.std.specs.Str.Lossy.{utf8_valid_len};
 ghost use Rattle.tabled_csv.specs.Grammar.{IsSeparator, opens};
 ghost use Rattle.tabled_csv.specs.Fields.{FieldAt, PlainAt};
 ghost use Rattle.tabled_csv.specs.Faults.{FaultAt};
-ghost use Rattle.tabled_csv.specs.Reading.{UnreadAt};
+ghost use Rattle.tabled_csv.specs.Reading.{Shows};
 
 use crate::dialect::Dialect;
-use crate::fault::{Fault, Unread};
+use crate::fault::{Fault, PartError};
 use crate::outside::first_outside;
 use crate::quoted::find_closing;
 use crate::room::Spare;
@@ -60,17 +60,17 @@ pub(crate) fn read_field<'a>(
     is_text: bool,
     bytes: &'a [u8],
     spare: &mut Spare<'a>,
-) -> Result<(&'a str, Stop, &'a [u8]), Unread>
+) -> Result<(&'a str, Stop, &'a [u8]), PartError>
     requires separator { IsSeparator dialect.separator }
     requires text { IsTrue is_text → IsUtf8 bytes.now }
-    ensures { MatchResult result (λ read. FieldAt dialect bytes.now read.0.now read.1 read.2.now) (UnreadAt (FaultAt dialect bytes.now)) }
+    ensures { MatchResult result (λ read. FieldAt dialect bytes.now read.0.now read.1 read.2.now) (Shows (FaultAt dialect bytes.now)) }
 {
     if begins_with(b'"', bytes) && dialect.is_quoting() {
         return quoted_field(dialect, is_text, bytes, &bytes[1..], spare);
     }
     let (field, stop, after) = plain_field(dialect, bytes);
     if !is_utf8(is_text, field) {
-        return Err(Unread::Faulty(Fault::NotUtf8, left_behind_text(bytes)));
+        return Err(PartError::Faulty(Fault::NotUtf8, left_behind_text(bytes)));
     }
     Ok((unsafe { str::from_utf8_unchecked(field) }, stop, after))
 }
@@ -84,29 +84,29 @@ fn quoted_field<'a>(
     bytes: &'a [u8],
     behind: &'a [u8],
     spare: &mut Spare<'a>,
-) -> Result<(&'a str, Stop, &'a [u8]), Unread>
+) -> Result<(&'a str, Stop, &'a [u8]), PartError>
     requires separator { IsSeparator dialect.separator }
     requires behind { bytes.now ≡ 34 ∷ behind.now }
     requires quoting { dialect.quoting ≡ true }
     requires text { IsTrue is_text → IsUtf8 bytes.now }
-    ensures { MatchResult result (λ read. FieldAt dialect bytes.now read.0.now read.1 read.2.now) (UnreadAt (FaultAt dialect bytes.now)) }
+    ensures { MatchResult result (λ read. FieldAt dialect bytes.now read.0.now read.1 read.2.now) (Shows (FaultAt dialect bytes.now)) }
 {
     let Some(closing) = find_closing(behind) else {
-        return Err(Unread::Faulty(Fault::UnclosedQuote, bytes.len()));
+        return Err(PartError::Faulty(Fault::UnclosedQuote, bytes.len()));
     };
     let rest = &behind[closing.place + 1..];
     let Some((stop, after)) = stop_at(dialect, rest) else {
-        return Err(Unread::Faulty(Fault::BehindQuote, rest.len()));
+        return Err(PartError::Faulty(Fault::BehindQuote, rest.len()));
     };
     let inner = &behind[..closing.place];
     if closing.has_doubled {
         let Ok(text) = str::from_utf8(spare.undoubled(inner)?) else {
-            return Err(Unread::Faulty(Fault::NotUtf8, left_behind_text(bytes)));
+            return Err(PartError::Faulty(Fault::NotUtf8, left_behind_text(bytes)));
         };
         return Ok((text, stop, after));
     }
     if !is_utf8(is_text, inner) {
-        return Err(Unread::Faulty(Fault::NotUtf8, left_behind_text(bytes)));
+        return Err(PartError::Faulty(Fault::NotUtf8, left_behind_text(bytes)));
     }
     Ok((unsafe { str::from_utf8_unchecked(inner) }, stop, after))
 }

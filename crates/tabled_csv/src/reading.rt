@@ -2,12 +2,12 @@
 
 ghost use Rattle.std.specs.Prelude.{◌≡◌, ◌≤◌, [], IfErr, IfOk, IsOk, IsTrue, IsUtf8, MatchResult, OnErr, length};
 ghost use Rattle.tabled_csv.specs.Grammar.{IsSeparator, IsCsv, IsLines, behind_mark, with_quotes};
-ghost use Rattle.tabled_csv.specs.Reading.{AtFault, LinesFault, NoRows, RecordAt, RecordFault, UnreadAt};
+ghost use Rattle.tabled_csv.specs.Reading.{AtFault, LinesFault, NoRows, RecordAt, RecordFault, Shows};
 ghost use Rattle.tabled_csv.specs.Faults.{IsFault, line_at};
 ghost use Rattle.tabled_csv.specs.Texts.{KeepsTexts, rows_by, rows_of, texts_by};
 
 use crate::dialect::Dialect;
-use crate::fault::{ReadError, Unread};
+use crate::fault::{PartError, ReadError};
 use crate::field::read_field;
 use crate::room::{Room, Spare};
 use crate::separator::Separator;
@@ -24,13 +24,13 @@ fn record<'a, T>(
     room: usize,
     bytes: &'a [u8],
     spare: &mut Spare<'a>,
-) -> Result<(Vec<T>, &'a [u8]), Unread>
+) -> Result<(Vec<T>, &'a [u8]), PartError>
 where
     T: From<&'a str> + CellText,
     requires keeps { KeepsTexts T.from_gives T.text_of }
     requires separator { IsSeparator dialect.separator }
     requires text { IsTrue is_text → IsUtf8 bytes.now }
-    ensures { MatchResult result (λ read. RecordAt dialect bytes.now (texts_by T.text_of read.0) read.1.now) (UnreadAt (RecordFault dialect bytes.now)) }
+    ensures { MatchResult result (λ read. RecordAt dialect bytes.now (texts_by T.text_of read.0) read.1.now) (Shows (RecordFault dialect bytes.now)) }
 {
     let mut row = Vec::with_capacity(alloc, room)?;
     let mut rest = bytes;
@@ -52,14 +52,14 @@ fn lines<'a, T>(
     is_text: bool,
     bytes: &'a [u8],
     spare: &mut Spare<'a>,
-) -> Result<Vec<Vec<T>>, Unread>
+) -> Result<Vec<Vec<T>>, PartError>
 where
     T: From<&'a str> + CellText,
     requires keeps { KeepsTexts T.from_gives T.text_of }
     requires separator { IsSeparator dialect.separator }
     requires text { IsTrue is_text → IsUtf8 bytes.now }
     ensures err { OnErr result (IsLines dialect bytes.now [] → ⊥) }
-    ensures read { MatchResult result (λ rows. IsLines dialect bytes.now (rows_by T.text_of rows.items)) (UnreadAt (LinesFault dialect bytes.now)) }
+    ensures read { MatchResult result (λ rows. IsLines dialect bytes.now (rows_by T.text_of rows.items)) (Shows (LinesFault dialect bytes.now)) }
 {
     let mut rows = Vec::new(alloc);
     let mut room = 0;
@@ -157,10 +157,10 @@ where
     let _ = dialect.separator();
     match lines(alloc, dialect, is_text, text, spare) {
         Ok(rows) => Ok(rows),
-        Err(Unread::Faulty(fault, left)) => {
+        Err(PartError::Faulty(fault, left)) => {
             let line = line_at(text, left);
             Err(ReadError::Faulty { line, fault })
         }
-        Err(Unread::OutOfMemory) => Err(ReadError::OutOfMemory),
+        Err(PartError::OutOfMemory) => Err(ReadError::OutOfMemory),
     }
 }

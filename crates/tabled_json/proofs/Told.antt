@@ -4,12 +4,12 @@ use Rattle.tabled_json.specs.Faults.{ShowsAt}
 use Rattle.tabled_json.specs.Laws.{HasOneFault}
 use Rattle.tabled_json.specs.Places.{AtFault, IsTold, column_at, line_at}
 use Rattle.tabled_json.specs.Records.{behind_mark}
+use Rattle.tabled_json.specs.declared.fault.PartError.{PartError}
+use Rattle.tabled_json.specs.declared.fault.PartError.TheVariants.{Faulty, OutOfMemory}
 use Rattle.tabled_json.specs.declared.fault.ReadError.{ReadError}
 use Rattle.tabled_json.specs.declared.fault.ReadError.TheVariants as told
-use Rattle.tabled_json.specs.declared.fault.Unread.{Unread}
-use Rattle.tabled_json.specs.declared.fault.Unread.TheVariants.{Faulty, OutOfMemory}
 
-pub told-shows : (FaultAt : List ℕ → Fault → ℕ → Type 0) (bytes text : List ℕ) (unread : Unread) (e : ReadError) → text ≡ behind_mark bytes → IsTold text unread e → Shows (FaultAt text) unread
+pub told-shows : (FaultAt : List ℕ → Fault → ℕ → Type 0) (bytes text : List ℕ) (error : PartError) (e : ReadError) → text ≡ behind_mark bytes → IsTold text error e → Shows (FaultAt text) error
     → AtFault (ShowsAt FaultAt bytes) e
 told-shows FaultAt bytes text (Faulty fault left) e is t f =
     subst (AtFault (ShowsAt FaultAt bytes)) (sym t)

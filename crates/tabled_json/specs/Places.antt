@@ -4,10 +4,10 @@ use Rattle.std.specs.List.{count_by}
 use Rattle.std.specs.Prelude.{◌≡◌, ◌+◌, ◌-◌, ◌==◌, ℕ, List, [], ◌∷◌, ◌++◌, codes, if◌then◌else◌, length, take}
 use Rattle.tabled_json.specs.declared.fault.Fault.{Fault}
 use Rattle.tabled_json.specs.declared.fault.Fault.TheVariants.{BadEscape, BadNumber, BadUnicode, Closing, Comma, Comment, Control, Ended, NoArray, NoObject, NoWord, NotUtf8, SingleQuote, Unclosed, Unexpected}
+use Rattle.tabled_json.specs.declared.fault.PartError.{PartError}
+use Rattle.tabled_json.specs.declared.fault.PartError.TheVariants as part_error
 use Rattle.tabled_json.specs.declared.fault.ReadError.{ReadError}
 use Rattle.tabled_json.specs.declared.fault.ReadError.TheVariants.{Faulty, OutOfMemory}
-use Rattle.tabled_json.specs.declared.fault.Unread.{Unread}
-use Rattle.tabled_json.specs.declared.fault.Unread.TheVariants as unread
 
 -- in which line of bytes so many are left
 abbrev pub line_at : List ℕ → ℕ → ℕ
@@ -32,9 +32,9 @@ AtFault P (Faulty line column fault) = P line column fault
 AtFault P OutOfMemory = Unit {0}
 
 -- what is told of bytes that were not read: the fault, in the line and the column where so many bytes are left
-abbrev pub IsTold : List ℕ → Unread → ReadError → Type 0
-IsTold bytes (unread.Faulty fault left) told = told ≡ Faulty (line_at bytes left) (column_at bytes left) fault
-IsTold bytes unread.OutOfMemory told = told ≡ OutOfMemory
+abbrev pub IsTold : List ℕ → PartError → ReadError → Type 0
+IsTold bytes (part_error.Faulty fault left) told = told ≡ Faulty (line_at bytes left) (column_at bytes left) fault
+IsTold bytes part_error.OutOfMemory told = told ≡ OutOfMemory
 
 -- what is told of a fault
 abbrev pub message_of : Fault → List ℕ

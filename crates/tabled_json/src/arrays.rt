@@ -8,7 +8,7 @@ ghost use Rattle.tabled_json.specs.Texts.{rows_of, texts_of};
 ghost use Rattle.tabled_json.specs.declared.fault.Fault.TheVariants.{Unexpected};
 
 use crate::cell::cell;
-use crate::fault::{Fault, Unread, unexpected, wanted};
+use crate::fault::{Fault, PartError, unexpected, wanted};
 use crate::list::{Behind, behind_element, exact};
 use crate::room::Spare;
 use crate::space::{behind_byte, behind_space};
@@ -20,7 +20,7 @@ fn texts<'a>(
     bytes: &'a [u8],
     scratch: &mut Vec<u8>,
     spare: &mut Spare<'a>,
-) -> Result<(Vec<&'a str>, &'a [u8]), Unread>
+) -> Result<(Vec<&'a str>, &'a [u8]), PartError>
     ensures read { MatchResult result (λ r. ElementsAt CellAt 93 bytes.now (texts_of r.0) r.1.now) (Shows (ElementsFault CellAt CellFault 93 bytes.now)) }
     ensures shorter { IfOk result (λ r. length r.1.now < length bytes.now) }
 {
@@ -47,7 +47,7 @@ fn row<'a>(
     bytes: &'a [u8],
     scratch: &mut Vec<u8>,
     spare: &mut Spare<'a>,
-) -> Result<(Vec<&'a str>, &'a [u8]), Unread>
+) -> Result<(Vec<&'a str>, &'a [u8]), PartError>
     ensures read { MatchResult result (λ r. RowAt bytes.now (texts_of r.0) r.1.now) (Shows (RowFault bytes.now)) }
     ensures shorter { IfOk result (λ r. length r.1.now < length bytes.now) }
 {
@@ -69,7 +69,7 @@ fn rows<'a>(
     bytes: &'a [u8],
     scratch: &mut Vec<u8>,
     spare: &mut Spare<'a>,
-) -> Result<(Vec<Vec<&'a str>>, &'a [u8]), Unread>
+) -> Result<(Vec<Vec<&'a str>>, &'a [u8]), PartError>
     ensures read { MatchResult result (λ r. ElementsAt RowAt 93 bytes.now (rows_of r.0.items) r.1.now) (Shows (ElementsFault RowAt RowFault 93 bytes.now)) }
     ensures shorter { IfOk result (λ r. length r.1.now < length bytes.now) }
 {
@@ -92,7 +92,7 @@ fn array<'a>(
     bytes: &'a [u8],
     scratch: &mut Vec<u8>,
     spare: &mut Spare<'a>,
-) -> Result<(Vec<Vec<&'a str>>, &'a [u8]), Unread>
+) -> Result<(Vec<Vec<&'a str>>, &'a [u8]), PartError>
     ensures read { MatchResult result (λ r. ListAt RowAt 91 93 bytes.now (rows_of r.0.items) r.1.now) (Shows (ListFault RowAt RowFault Unexpected 91 93 bytes.now)) }
     ensures shorter { IfOk result (λ r. length r.1.now < length bytes.now) }
 {
@@ -114,7 +114,7 @@ pub(crate) fn array_rows<'a>(
     bytes: &'a [u8],
     scratch: &mut Vec<u8>,
     spare: &mut Spare<'a>,
-) -> Result<Vec<Vec<&'a str>>, Unread>
+) -> Result<Vec<Vec<&'a str>>, PartError>
     ensures { MatchResult result (λ rows. AreRows bytes.now (rows_of rows.items)) (Shows (ArrayFault RowAt RowFault bytes.now)) }
 {
     let first = behind_space(bytes);

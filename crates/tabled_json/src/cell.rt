@@ -6,7 +6,7 @@ ghost use Rattle.tabled_json.specs.Grammar.{CellAt};
 ghost use Rattle.tabled_json.specs.Reading.{Shows};
 ghost use Rattle.tabled_json.specs.Records.{HoldsText};
 
-use crate::fault::{Fault, Unread};
+use crate::fault::{Fault, PartError};
 use crate::room::Spare;
 use crate::scalar::scalar;
 use crate::space::behind_byte;
@@ -20,13 +20,13 @@ pub(crate) fn text_of<'a>(
     bytes: &[u8],
     spare: &mut Spare<'a>,
     left: usize,
-) -> Result<&'a str, Unread>
+) -> Result<&'a str, PartError>
     ensures { MatchResult result (HoldsText bytes.now) (Shows (IsNoText left bytes.now)) }
 {
     let lent = spare.lend(source, bytes)?;
     match str::from_utf8(lent) {
         Ok(text) => Ok(text),
-        Err(_) => Err(Unread::Faulty(Fault::NotUtf8, left)),
+        Err(_) => Err(PartError::Faulty(Fault::NotUtf8, left)),
     }
 }
 
@@ -41,7 +41,7 @@ pub(crate) fn cell<'a>(
     bytes: &'a [u8],
     scratch: &mut Vec<u8>,
     spare: &mut Spare<'a>,
-) -> Result<(&'a str, &'a [u8]), Unread>
+) -> Result<(&'a str, &'a [u8]), PartError>
     ensures read { MatchResult result (λ r. CellAt bytes.now r.0.now r.1.now) (Shows (CellFault bytes.now)) }
     ensures shorter { IfOk result (λ r. length r.1.now ≤ length bytes.now) }
 {

@@ -163,30 +163,30 @@ impl From<WriteError> for io::Error {
 
 /// Why a part of bytes was not read: a fault, and how many bytes are left where it shows.
 #[derive(Clone, Copy, Debug, PartialEq, Eq)]
-pub(crate) enum Unread {
+pub(crate) enum PartError {
     Faulty(Fault, usize),
     OutOfMemory,
 }
 
-impl From<AllocError> for Unread {
+impl From<AllocError> for PartError {
     ghost use Rattle.std.specs.Prelude.{◌≡◌};
-    ghost use Rattle.tabled_json.specs.declared.fault.Unread.TheVariants.{OutOfMemory};
+    ghost use Rattle.tabled_json.specs.declared.fault.PartError.TheVariants.{OutOfMemory};
 
     ghost from_gives = { λ _ e. e ≡ OutOfMemory };
 
-    fn from(_refused: AllocError) -> Unread {
-        Unread::OutOfMemory
+    fn from(_refused: AllocError) -> PartError {
+        PartError::OutOfMemory
     }
 }
 
-impl<T: Drop> From<AllocFailed<T>> for Unread {
+impl<T: Drop> From<AllocFailed<T>> for PartError {
     ghost use Rattle.std.specs.Prelude.{◌≡◌};
-    ghost use Rattle.tabled_json.specs.declared.fault.Unread.TheVariants.{OutOfMemory};
+    ghost use Rattle.tabled_json.specs.declared.fault.PartError.TheVariants.{OutOfMemory};
 
     ghost from_gives = { λ _ e. e ≡ OutOfMemory };
 
-    fn from(_refused: AllocFailed<T>) -> Unread {
-        Unread::OutOfMemory
+    fn from(_refused: AllocFailed<T>) -> PartError {
+        PartError::OutOfMemory
     }
 }
 
@@ -229,15 +229,15 @@ fn told_by(wanted: Fault, bytes: &[u8]) -> Fault
 }
 
 /// What is told where something else is wanted.
-pub(crate) fn unexpected(bytes: &[u8]) -> Unread
+pub(crate) fn unexpected(bytes: &[u8]) -> PartError
     ensures { Shows (IsWanted Unexpected bytes.now) result }
 {
     wanted(Fault::Unexpected, bytes)
 }
 
 /// What is told where something is wanted that bytes don't begin with.
-pub(crate) fn wanted(fault: Fault, bytes: &[u8]) -> Unread
+pub(crate) fn wanted(fault: Fault, bytes: &[u8]) -> PartError
     ensures { Shows (IsWanted fault bytes.now) result }
 {
-    Unread::Faulty(told_by(fault, bytes), bytes.len())
+    PartError::Faulty(told_by(fault, bytes), bytes.len())
 }

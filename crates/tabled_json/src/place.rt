@@ -4,7 +4,7 @@ ghost use Rattle.std.specs.Prelude.{◌≡◌, ◌<◌, ◌≤◌, ◌+◌, ◌=
 ghost use Rattle.tabled_json.specs.Places.{AtFault, IsPlace, IsTold, column_at, column_behind, line_at};
 ghost use Rattle.tabled_json.specs.Records.{begins_with_mark, behind_mark};
 
-use crate::fault::{ReadError, Unread};
+use crate::fault::{PartError, ReadError};
 
 /// The bytes of U+FEFF, the byte order mark.
 const MARK: [u8; 3] = [0xEF, 0xBB, 0xBF];
@@ -64,12 +64,12 @@ fn column_at(bytes: &[u8], left: usize) -> usize
 }
 
 /// What is told of bytes that were not read.
-pub(crate) fn told(bytes: &[u8], unread: Unread) -> ReadError
-    ensures is { IsTold bytes.now unread result }
+pub(crate) fn told(bytes: &[u8], error: PartError) -> ReadError
+    ensures is { IsTold bytes.now error result }
     ensures place { AtFault (λ line column fault. IsPlace bytes.now line column) result }
 {
-    match unread {
-        Unread::Faulty(fault, left) => {
+    match error {
+        PartError::Faulty(fault, left) => {
             let line = line_at(bytes, left);
             let column = column_at(bytes, left);
             ReadError::Faulty {
@@ -78,6 +78,6 @@ pub(crate) fn told(bytes: &[u8], unread: Unread) -> ReadError
                 fault,
             }
         }
-        Unread::OutOfMemory => ReadError::OutOfMemory,
+        PartError::OutOfMemory => ReadError::OutOfMemory,
     }
 }

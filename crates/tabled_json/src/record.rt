@@ -9,7 +9,7 @@ ghost use Rattle.tabled_json.specs.Records.{MeansNoRecords, MeansRecords, behind
 ghost use Rattle.tabled_json.specs.declared.fault.Fault.TheVariants.{Unexpected};
 
 use crate::cell::{behind_quote, cell, text_of};
-use crate::fault::{Fault, ReadError, Unread, unexpected, wanted};
+use crate::fault::{Fault, PartError, ReadError, unexpected, wanted};
 use crate::list::{Behind, behind_element, exact};
 use crate::member::Member;
 use crate::place::{behind_mark, told};
@@ -24,7 +24,7 @@ fn read_member<'a>(
     bytes: &'a [u8],
     scratch: &mut Vec<u8>,
     spare: &mut Spare<'a>,
-) -> Result<(Member<'a>, &'a [u8]), Unread>
+) -> Result<(Member<'a>, &'a [u8]), PartError>
     ensures read { MatchResult result (λ r. MemberAt bytes.now (member_of r.0) r.1.now) (Shows (MemberFault bytes.now)) }
     ensures shorter { IfOk result (λ r. length r.1.now < length bytes.now) }
 {
@@ -40,7 +40,7 @@ fn members<'a>(
     bytes: &'a [u8],
     scratch: &mut Vec<u8>,
     spare: &mut Spare<'a>,
-) -> Result<(Vec<Member<'a>>, &'a [u8]), Unread>
+) -> Result<(Vec<Member<'a>>, &'a [u8]), PartError>
     ensures read { MatchResult result (λ r. ElementsAt MemberAt 125 bytes.now (members_of r.0) r.1.now) (Shows (ElementsFault MemberAt MemberFault 125 bytes.now)) }
     ensures shorter { IfOk result (λ r. length r.1.now < length bytes.now) }
 {
@@ -67,7 +67,7 @@ fn object<'a>(
     bytes: &'a [u8],
     scratch: &mut Vec<u8>,
     spare: &mut Spare<'a>,
-) -> Result<(Vec<Member<'a>>, &'a [u8]), Unread>
+) -> Result<(Vec<Member<'a>>, &'a [u8]), PartError>
     ensures read { MatchResult result (λ r. ObjectAt bytes.now (members_of r.0) r.1.now) (Shows (ObjectFault bytes.now)) }
     ensures shorter { IfOk result (λ r. length r.1.now < length bytes.now) }
 {
@@ -89,7 +89,7 @@ fn objects<'a>(
     bytes: &'a [u8],
     scratch: &mut Vec<u8>,
     spare: &mut Spare<'a>,
-) -> Result<(Vec<Vec<Member<'a>>>, &'a [u8]), Unread>
+) -> Result<(Vec<Vec<Member<'a>>>, &'a [u8]), PartError>
     ensures read { MatchResult result (λ r. ElementsAt ObjectAt 93 bytes.now (objects_of r.0) r.1.now) (Shows (ElementsFault ObjectAt ObjectFault 93 bytes.now)) }
     ensures shorter { IfOk result (λ r. length r.1.now < length bytes.now) }
 {
@@ -112,7 +112,7 @@ fn array<'a>(
     bytes: &'a [u8],
     scratch: &mut Vec<u8>,
     spare: &mut Spare<'a>,
-) -> Result<(Vec<Vec<Member<'a>>>, &'a [u8]), Unread>
+) -> Result<(Vec<Vec<Member<'a>>>, &'a [u8]), PartError>
     ensures read { MatchResult result (λ r. ListAt ObjectAt 91 93 bytes.now (objects_of r.0) r.1.now) (Shows (ListFault ObjectAt ObjectFault Unexpected 91 93 bytes.now)) }
     ensures shorter { IfOk result (λ r. length r.1.now < length bytes.now) }
 {
@@ -134,7 +134,7 @@ fn lines<'a>(
     bytes: &'a [u8],
     scratch: &mut Vec<u8>,
     spare: &mut Spare<'a>,
-) -> Result<Vec<Vec<Member<'a>>>, Unread>
+) -> Result<Vec<Vec<Member<'a>>>, PartError>
     ensures { MatchResult result (λ all. AreLines bytes.now (objects_of all)) (Shows (LinesFault bytes.now)) }
 {
     let mut objects = Vec::new(alloc);
@@ -156,7 +156,7 @@ pub(crate) fn records<'a>(
     bytes: &'a [u8],
     scratch: &mut Vec<u8>,
     spare: &mut Spare<'a>,
-) -> Result<Vec<Vec<Member<'a>>>, Unread>
+) -> Result<Vec<Vec<Member<'a>>>, PartError>
     ensures { MatchResult result (λ all. IsRecords bytes.now (objects_of all)) (Shows (RecordsFault bytes.now)) }
 {
     let first = behind_space(bytes);
@@ -196,6 +196,6 @@ pub fn read<'a>(
     let mut scratch = Vec::new(alloc);
     match records(alloc, text, &mut scratch, &mut Spare::new(room)) {
         Ok(objects) => Ok(objects),
-        Err(unread) => Err(told(text, unread)),
+        Err(error) => Err(told(text, error)),
     }
 }

@@ -11,7 +11,7 @@ ghost use Rattle.tabled_json.specs.Tables.{AreListed, keys_of, row_of, table_of,
 ghost use Rattle.tabled_json.specs.Texts.{rows_of, text_of, texts_of};
 
 use crate::arrays::array_rows;
-use crate::fault::{ReadError, Unread};
+use crate::fault::{PartError, ReadError};
 use crate::keys::Keys;
 use crate::member::Member;
 use crate::place::{behind_mark, told};
@@ -124,7 +124,7 @@ fn whole_table<'a>(
     alloc: Global,
     bytes: &'a [u8],
     spare: &mut Spare<'a>,
-) -> Result<Vec<Vec<&'a str>>, Unread>
+) -> Result<Vec<Vec<&'a str>>, PartError>
     ensures { MatchResult result (λ rows. HoldsTable bytes.now (rows_of rows.items)) (Shows (TableFault bytes.now)) }
 {
     let mut scratch = Vec::new(alloc);
@@ -175,6 +175,6 @@ pub fn read_table_with<'a>(
     let text = behind_mark(bytes);
     match whole_table(alloc, text, spare) {
         Ok(rows) => Ok(rows),
-        Err(unread) => Err(told(text, unread)),
+        Err(error) => Err(told(text, error)),
     }
 }

@@ -6,7 +6,7 @@ ghost use Rattle.tabled_json.specs.Grammar.{ItemAt, KeyAt, ValueAt, closing, ope
 ghost use Rattle.tabled_json.specs.Reading.{Shows};
 ghost use Rattle.tabled_json.specs.WholeValues.{BegunAt, EndedAt, OpensNothing, begun_left, ended_left};
 
-use crate::fault::{Unread, unexpected};
+use crate::fault::{PartError, unexpected};
 use crate::scalar::scalar;
 use crate::space::{behind_byte, behind_space};
 use crate::string::content;
@@ -44,7 +44,7 @@ pub(crate) fn opened(bytes: &[u8]) -> Option<(Kind, &[u8])>
 }
 
 /// Puts the key at the front into `text`. The bytes at its value.
-pub(crate) fn key<'a>(bytes: &'a [u8], text: &mut Vec<u8>) -> Result<&'a [u8], Unread>
+pub(crate) fn key<'a>(bytes: &'a [u8], text: &mut Vec<u8>) -> Result<&'a [u8], PartError>
     ensures read { MatchResult result (λ value. KeyAt bytes.now text.new.items value.now) (Shows (KeyFault bytes.now)) }
     ensures shorter { IfOk result (λ value. length value.now < length bytes.now) }
 {
@@ -60,7 +60,7 @@ pub(crate) fn key<'a>(bytes: &'a [u8], text: &mut Vec<u8>) -> Result<&'a [u8], U
 }
 
 /// The bytes at the value of an item.
-fn item<'a>(kind: Kind, bytes: &'a [u8], scratch: &mut Vec<u8>) -> Result<&'a [u8], Unread>
+fn item<'a>(kind: Kind, bytes: &'a [u8], scratch: &mut Vec<u8>) -> Result<&'a [u8], PartError>
     ensures read { MatchResult result (λ value. ItemAt kind bytes.now value.now) (Shows (ItemFault kind bytes.now)) }
     ensures shorter { IfOk result (λ value. length value.now ≤ length bytes.now) }
 {
@@ -77,7 +77,7 @@ enum Begun<'a> {
 }
 
 /// What is behind the front of a value.
-fn begin<'a>(bytes: &'a [u8], scratch: &mut Vec<u8>) -> Result<Begun<'a>, Unread>
+fn begin<'a>(bytes: &'a [u8], scratch: &mut Vec<u8>) -> Result<Begun<'a>, PartError>
     ensures read { MatchResult result (BegunAt bytes.now) (Shows (ValueFault bytes.now)) }
     ensures shorter { IfOk result (λ begun. begun_left begun < length bytes.now) }
 {
@@ -100,7 +100,7 @@ enum Ended<'a> {
 }
 
 /// What is behind an item.
-fn end<'a>(kind: Kind, behind: &'a [u8], scratch: &mut Vec<u8>) -> Result<Ended<'a>, Unread>
+fn end<'a>(kind: Kind, behind: &'a [u8], scratch: &mut Vec<u8>) -> Result<Ended<'a>, PartError>
     ensures read { MatchResult result (EndedAt kind behind.now) (Shows (EndFault kind behind.now)) }
     ensures shorter { IfOk result (λ ended. ended_left ended < length behind.now) }
 {
@@ -121,7 +121,7 @@ pub(crate) fn behind_value<'a>(
     alloc: Global,
     bytes: &'a [u8],
     scratch: &mut Vec<u8>,
-) -> Result<&'a [u8], Unread>
+) -> Result<&'a [u8], PartError>
     ensures read { MatchResult result (λ after. ValueAt bytes.now after.now) (Shows (ValueFault bytes.now)) }
     ensures shorter { IfOk result (λ after. length after.now ≤ length bytes.now) }
 {

@@ -7,13 +7,13 @@ use Rattle.tabled_json.specs.Records.{MeansNoRecords, behind_mark}
 use Rattle.tabled_json.proofs.record.read.Goals as goal
 
 pub returns-clause-fault : goal.returns-clause-fault
-returns-clause-fault c = told-shows RecordsFault c.args.bytes.now c.behind_mark-text.result.now c.in-Err.unread c.told.result c.behind_mark-text.ensures c.told.ensures.is c.in-Err.ensures
+returns-clause-fault c = told-shows RecordsFault c.args.bytes.now c.behind_mark-text.result.now c.in-Err.error c.told.result c.behind_mark-text.ensures c.told.ensures.is c.in-Err.ensures
 
 pub returns-clause-none : goal.returns-clause-none
 returns-clause-none c =
     let bytes = c.args.bytes.now in
     at-fault-from (IsFault bytes) (λ line column fault. MeansNoRecords bytes) c.told.result (λ line column fault f. records-none (behind_mark bytes) fault f.0 f.1)
-    (told-shows RecordsFault bytes c.behind_mark-text.result.now c.in-Err.unread c.told.result c.behind_mark-text.ensures c.told.ensures.is c.in-Err.ensures)
+    (told-shows RecordsFault bytes c.behind_mark-text.result.now c.in-Err.error c.told.result c.behind_mark-text.ensures c.told.ensures.is c.in-Err.ensures)
 
 pub returns-clause-place : goal.returns-clause-place
 returns-clause-place c =
