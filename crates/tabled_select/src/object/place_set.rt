@@ -18,12 +18,12 @@ const CELLS_PER_NAMED: usize = 128;
 /// Some of the places of a table.
 #[derive(Drop)]
 pub(super) struct PlaceSet {
-    form: Form,
+    marks: PlaceMarks,
 }
 
 /// Marks of all places of a table, or of a few.
 #[derive(Drop)]
-enum Form {
+enum PlaceMarks {
     All(Marked),
     Few(ListedMarks),
 }
@@ -43,11 +43,11 @@ impl PlaceSet {
         ensures marked { IfOk result (λ set. MarksAll (marks_of set) (flat entities.items rows columns) true) }
         ensures covers { IfOk result (λ set. (others : List Entity) → AllByRecursion (covers set) (flat others rows columns)) }
     {
-        let form = match dense_size(rows, columns, named) {
-            Some(size) => Form::All(Marked::of(alloc, entities, rows, columns, size)?),
-            None => Form::Few(ListedMarks::of(alloc, entities, rows, columns, true)?),
+        let marks = match dense_size(rows, columns, named) {
+            Some(size) => PlaceMarks::All(Marked::of(alloc, entities, rows, columns, size)?),
+            None => PlaceMarks::Few(ListedMarks::of(alloc, entities, rows, columns, true)?),
         };
-        Ok(PlaceSet { form })
+        Ok(PlaceSet { marks })
     }
 
     /// No place, and room for those that entities name in a table of `rows x columns`.
@@ -62,14 +62,14 @@ impl PlaceSet {
     ) -> Result<Self, AllocError>
         ensures { IfOk result (λ set. MarksAll (marks_of set) (flat entities.now rows columns) false) }
     {
-        let form = match dense_size(rows, columns, named) {
-            Some(size) => Form::All(Marked::new(alloc, rows, columns, size)?),
+        let marks = match dense_size(rows, columns, named) {
+            Some(size) => PlaceMarks::All(Marked::new(alloc, rows, columns, size)?),
             None => {
                 let entities = Vec::from_slice(alloc, entities)?;
-                Form::Few(ListedMarks::of(alloc, entities, rows, columns, false)?)
+                PlaceMarks::Few(ListedMarks::of(alloc, entities, rows, columns, false)?)
             }
         };
-        Ok(PlaceSet { form })
+        Ok(PlaceSet { marks })
     }
 
     #[inline]
@@ -77,9 +77,9 @@ impl PlaceSet {
         requires { covers self.now pos }
         ensures { result ≡ has (marks_of self.now) pos }
     {
-        match &self.form {
-            Form::All(marks) => marks.contains(pos),
-            Form::Few(marks) => marks.contains(pos),
+        match &self.marks {
+            PlaceMarks::All(marks) => marks.contains(pos),
+            PlaceMarks::Few(marks) => marks.contains(pos),
         }
     }
 
@@ -90,9 +90,9 @@ impl PlaceSet {
         ensures is_new { result ≡ not (has (marks_of self.old) pos) }
         ensures set { SetsMark (marks_of self.old) (marks_of self.new) pos true }
     {
-        match &mut self.form {
-            Form::All(marks) => marks.insert(pos),
-            Form::Few(marks) => marks.insert(pos),
+        match &mut self.marks {
+            PlaceMarks::All(marks) => marks.insert(pos),
+            PlaceMarks::Few(marks) => marks.insert(pos),
         }
     }
 }
