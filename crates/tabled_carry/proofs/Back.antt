@@ -31,13 +31,13 @@ module _ (there back : Places) (leads : LeadsBack there back) where
   pub image_twice : (m : SpanMap) (rows columns : ℕ) → Fits m rows columns → CarriesAll there m → image back (image there m) ≡ m
   image_twice m rows columns fits all =
       let is = image_is there m rows columns fits in
-      image_one back (image there m) (image back (image there m)) m (image_is back (image there m) there.rows there.columns (image_fits there m (image there m) rows columns is fits)) (image_back m (image there m) is all)
+      image_one back (image there m) (image back (image there m)) m (image_is back (image there m) there.size.height there.size.width (image_fits there m (image there m) rows columns is fits)) (image_back m (image there m) is all)
 
   -- and what fits is carried there and back
-  pub carried_back : (m : SpanMap) (rows columns : ℕ) → Fits m rows columns → CarriesAll there m → carried back there.rows there.columns (carried there rows columns m) ≡ m
+  pub carried_back : (m : SpanMap) (rows columns : ℕ) → Fits m rows columns → CarriesAll there m → carried back there.size.height there.size.width (carried there rows columns m) ≡ m
   carried_back m rows columns fits all =
       let turn : carried there rows columns m ≡ image there m = ap (image there) (keep_fitting-all rows columns m fits) in
       let fitting = image_fits there m (image there m) rows columns (image_is there m rows columns fits) fits in
-      ap (carried back there.rows there.columns) turn
-      ∙ ap (image back) (keep_fitting-all there.rows there.columns (image there m) fitting)
+      ap (carried back there.size.height there.size.width) turn
+      ∙ ap (image back) (keep_fitting-all there.size.height there.size.width (image there m) fitting)
       ∙ image_twice m rows columns fits all

@@ -10,11 +10,11 @@ no_images (f ∷ fs) = no_images fs
 pub carried-none : (places : Places) (rows columns : ℕ) (m : SpanMap) → rectangles m ≡ [] → carried places rows columns m ≡ m
 carried-none places rows columns m none =
     let kept : rectangles (keep_fitting rows columns m) ≡ [] = ap (λ (es : List Rectangle). rectangles (map_of (fitting rows columns es))) none ∙ rectangles-map_of [] (record { sorted = tt; sizes = tt }) in
-    let gone : carried places rows columns m ≡ empty = ap (λ (es : List Rectangle). from_rectangles (images places es)) kept ∙ ap from_rectangles (no_images (rectangles_inside places.rows places.columns)) in
+    let gone : carried places rows columns m ≡ empty = ap (λ (es : List Rectangle). from_rectangles (images places es)) kept ∙ ap from_rectangles (no_images (rectangles_inside places.size.height places.size.width)) in
     gone ∙ empty-is ∙ ap map_of (sym none) ∙ map_of-rectangles m
 
 -- what is carried along fits the new table, whatever the map of places
-pub carried-fits : (places : Places) (rows columns : ℕ) (m : SpanMap) → Fits (carried places rows columns m) places.rows places.columns
+pub carried-fits : (places : Places) (rows columns : ℕ) (m : SpanMap) → Fits (carried places rows columns m) places.size.height places.size.width
 carried-fits places rows columns m =
     let kept = keep_fitting-fits rows columns m in
     image_fits places (keep_fitting rows columns m) (carried places rows columns m) rows columns (image_is places (keep_fitting rows columns m) rows columns kept) kept

@@ -64,10 +64,10 @@ module _ (places : Places) where
           omega (arith, ap (λ (x : Position). x.col) same)
 
   -- an image of what fits, fits
-  pub image_fits : (old new : SpanMap) (rows columns : ℕ) → IsImage places old new → Fits old rows columns → Fits new places.rows places.columns
+  pub image_fits : (old new : SpanMap) (rows columns : ℕ) → IsImage places old new → Fits old rows columns → Fits new places.size.height places.size.width
   image_fits old new rows columns is fits = record { each = λ e has. record { inside = inside e has; alone = λ f p had i j. meet e.first f.first p e.size f.size (is.comes e.first e.size has) (is.comes f.first f.size had) i j } }
     where
-      inside : (f : Rectangle) → get new f.first ≡ Some f.size → LiesInside places.rows places.columns f
+      inside : (f : Rectangle) → get new f.first ≡ Some f.size → LiesInside places.size.height places.size.width f
       inside f has =
           let c = is.comes f.first f.size has in
           let last = (c.3.from (last_of f) (last_in f c.4)).2 in
@@ -120,7 +120,7 @@ module _ (places : Places) where
   cell_from f p h = block-from _ _ _ _ p (record { top = h.top; bottom = h.bottom; left = h.left; right = h.right })
 
   -- the test says what the record says
-  carries-true : (e f : Rectangle) → (f.first.row + f.size.height ≤ places.rows) × (f.first.col + f.size.width ≤ places.columns) → carries places e f ≡ true → Carries places e f
+  carries-true : (e f : Rectangle) → (f.first.row + f.size.height ≤ places.size.height) × (f.first.col + f.size.width ≤ places.size.width) → carries places e f ≡ true → Carries places e f
   carries-true e f inside h = record { all = all; only = only; from = from }
     where
       new : Position → Bool
@@ -129,8 +129,8 @@ module _ (places : Places) where
       has : Position → Bool
       has q = list_any (λ (p : Position). old_place_passes (same_place q) (places.old_place p)) (cells_in f)
 
-      parts : (list_all new (block 0 places.rows 0 places.columns) ≡ true) × (list_all has (cells_in e) ≡ true)
-      parts = and_parts (list_all new (block 0 places.rows 0 places.columns)) (list_all has (cells_in e)) h
+      parts : (list_all new (block 0 places.size.height 0 places.size.width) ≡ true) × (list_all has (cells_in e) ≡ true)
+      parts = and_parts (list_all new (block 0 places.size.height 0 places.size.width)) (list_all has (cells_in e)) h
 
       all : (q : Position) → In e q → (p : Position) × Takes places p q
       all q i =
@@ -142,21 +142,21 @@ module _ (places : Places) where
 
       only : (p q : Position) → Takes places p q → In e q → In f p
       only p q t i =
-          let m = block-from 0 places.rows 0 places.columns p (record { top = omega arith; bottom = t.row; left = omega arith; right = t.col }) in
-          let same = alike-true _ _ (all-member new p (block 0 places.rows 0 places.columns) parts.0 m) in
+          let m = block-from 0 places.size.height 0 places.size.width p (record { top = omega arith; bottom = t.row; left = omega arith; right = t.col }) in
+          let same = alike-true _ _ (all-member new p (block 0 places.size.height 0 places.size.width) parts.0 m) in
           holds-true f p (sym same ∙ passed-from (holds e) (places.old_place p) q t.from (holds-from e q i))
 
       from : (p : Position) → In f p → (q : Position) × In e q × Takes places p q
       from p i =
-          let row : p.row < places.rows = omega (arith, i.bottom, inside.0) in
-          let col : p.col < places.columns = omega (arith, i.right, inside.1) in
-          let m = block-from 0 places.rows 0 places.columns p (record { top = omega arith; bottom = row; left = omega arith; right = col }) in
-          let same = alike-true _ _ (all-member new p (block 0 places.rows 0 places.columns) parts.0 m) in
+          let row : p.row < places.size.height = omega (arith, i.bottom, inside.0) in
+          let col : p.col < places.size.width = omega (arith, i.right, inside.1) in
+          let m = block-from 0 places.size.height 0 places.size.width p (record { top = omega arith; bottom = row; left = omega arith; right = col }) in
+          let same = alike-true _ _ (all-member new p (block 0 places.size.height 0 places.size.width) parts.0 m) in
           let o = passed (holds e) (places.old_place p) (same ∙ holds-from f p i) in
           (o.0, holds-true e o.0 o.2, record { row = row; col = col; from = o.1 })
 
   carries-from : (e f : Rectangle) → Carries places e f → carries places e f ≡ true
-  carries-from e f c = and_from _ _ (all-from new (block 0 places.rows 0 places.columns) just) (all-from has (cells_in e) each)
+  carries-from e f c = and_from _ _ (all-from new (block 0 places.size.height 0 places.size.width) just) (all-from has (cells_in e) each)
     where
       new : Position → Bool
       new p = alike (old_place_passes (holds e) (places.old_place p)) (holds f p)
@@ -164,9 +164,9 @@ module _ (places : Places) where
       has : Position → Bool
       has q = list_any (λ (p : Position). old_place_passes (same_place q) (places.old_place p)) (cells_in f)
 
-      just : (p : Position) → Member p (block 0 places.rows 0 places.columns) → new p ≡ true
+      just : (p : Position) → Member p (block 0 places.size.height 0 places.size.width) → new p ≡ true
       just p m =
-          let b = block-member 0 places.rows 0 places.columns p m in
+          let b = block-member 0 places.size.height 0 places.size.width p m in
           alike-from _ _
           (λ h. let o = passed (holds e) (places.old_place p) h in holds-from f p (c.only p o.0 (record { row = b.bottom; col = b.right; from = o.1 }) (holds-true e o.0 o.2)))
           (λ h. let t = c.from p (holds-true f p h) in passed-from (holds e) (places.old_place p) t.0 t.2.from (holds-from e t.0 t.1))
@@ -178,20 +178,20 @@ module _ (places : Places) where
           any-from (λ (p : Position). old_place_passes (same_place q) (places.old_place p)) t.0 (cells_in f) (cell_from f t.0 (c.only t.0 q t.1 i)) (passed-from (same_place q) (places.old_place t.0) q t.1.from (same_place-self q))
 
   -- the rectangles inside a table
-  rectangle-member : (f : Rectangle) → Member f (rectangles_inside places.rows places.columns) → HasArea f × (f.first.row + f.size.height ≤ places.rows) × (f.first.col + f.size.width ≤ places.columns)
+  rectangle-member : (f : Rectangle) → Member f (rectangles_inside places.size.height places.size.width) → HasArea f × (f.first.row + f.size.height ≤ places.size.height) × (f.first.col + f.size.width ≤ places.size.width)
   rectangle-member f m = grind (arith, common_steps, flat_map-member, map-member, block-member)
 
-  rectangle-from : (f : Rectangle) → HasArea f → f.first.row + f.size.height ≤ places.rows → f.first.col + f.size.width ≤ places.columns → Member f (rectangles_inside places.rows places.columns)
+  rectangle-from : (f : Rectangle) → HasArea f → f.first.row + f.size.height ≤ places.size.height → f.first.col + f.size.width ≤ places.size.width → Member f (rectangles_inside places.size.height places.size.width)
   rectangle-from f full tall wide =
       let height : f.size.height - 1 + 1 ≡ f.size.height = omega (arith, full.height) in
       let width : f.size.width - 1 + 1 ≡ f.size.width = omega (arith, full.width) in
-      let within : Member f.first (block 0 places.rows 0 places.columns) = block-from 0 places.rows 0 places.columns f.first (record { top = omega arith; bottom = omega (arith, full.height, tall); left = omega arith; right = omega (arith, full.width, wide) }) in
-      let last : Member (place (f.size.height - 1) (f.size.width - 1)) (block 0 (places.rows - f.first.row) 0 (places.columns - f.first.col)) = block-from 0 (places.rows - f.first.row) 0 (places.columns - f.first.col) (place (f.size.height - 1) (f.size.width - 1)) (record { top = omega arith; bottom = omega (arith, full.height, tall); left = omega arith; right = omega (arith, full.width, wide) }) in
-      let made = map-from (λ (last : Position). rectangle f.first (sized (last.row + 1) (last.col + 1))) (place (f.size.height - 1) (f.size.width - 1)) (block 0 (places.rows - f.first.row) 0 (places.columns - f.first.col)) last in
+      let within : Member f.first (block 0 places.size.height 0 places.size.width) = block-from 0 places.size.height 0 places.size.width f.first (record { top = omega arith; bottom = omega (arith, full.height, tall); left = omega arith; right = omega (arith, full.width, wide) }) in
+      let last : Member (place (f.size.height - 1) (f.size.width - 1)) (block 0 (places.size.height - f.first.row) 0 (places.size.width - f.first.col)) = block-from 0 (places.size.height - f.first.row) 0 (places.size.width - f.first.col) (place (f.size.height - 1) (f.size.width - 1)) (record { top = omega arith; bottom = omega (arith, full.height, tall); left = omega arith; right = omega (arith, full.width, wide) }) in
+      let made = map-from (λ (last : Position). rectangle f.first (sized (last.row + 1) (last.col + 1))) (place (f.size.height - 1) (f.size.width - 1)) (block 0 (places.size.height - f.first.row) 0 (places.size.width - f.first.col)) last in
       let f' : Rectangle = rectangle f.first (sized (f.size.height - 1 + 1) (f.size.width - 1 + 1)) in
       let same : f' ≡ f = ap₂ (λ h w. rectangle f.first (sized h w)) height width in
-      flat_map-from (λ (p : Position). map (λ (last : Position). rectangle p (sized (last.row + 1) (last.col + 1))) (block 0 (places.rows - p.row) 0 (places.columns - p.col))) f.first f (block 0 places.rows 0 places.columns) within
-      (subst (λ g. Member g (map (λ (last : Position). rectangle f.first (sized (last.row + 1) (last.col + 1))) (block 0 (places.rows - f.first.row) 0 (places.columns - f.first.col)))) same made)
+      flat_map-from (λ (p : Position). map (λ (last : Position). rectangle p (sized (last.row + 1) (last.col + 1))) (block 0 (places.size.height - p.row) 0 (places.size.width - p.col))) f.first f (block 0 places.size.height 0 places.size.width) within
+      (subst (λ g. Member g (map (λ (last : Position). rectangle f.first (sized (last.row + 1) (last.col + 1))) (block 0 (places.size.height - f.first.row) 0 (places.size.width - f.first.col)))) same made)
 
   -- the defined map is the image, where rectangles share no cell
   pub image_is : (m : SpanMap) (rows columns : ℕ) → Fits m rows columns → IsImage places m (image places m)
@@ -202,7 +202,7 @@ module _ (places : Places) where
 
       of_member : (b : Position) (t : Size) → Member (rectangle b t) (images places (rectangles m)) → (a : Position) × (s : Size) × (get m a ≡ Some s) × Carries places (rectangle a s) (rectangle b t) × HasArea (rectangle b t)
       of_member b t h =
-          let parts = filter-member test (rectangle b t) (rectangles_inside places.rows places.columns) h in
+          let parts = filter-member test (rectangle b t) (rectangles_inside places.size.height places.size.width) h in
           let room = rectangle-member (rectangle b t) parts.0 in
           let e = any-member (λ (e : Rectangle). carries places e (rectangle b t)) (rectangles m) parts.1 in
           let here = sorted-find (rectangles m) e.0 (rectangles_sorted m) e.1 in
@@ -221,7 +221,7 @@ module _ (places : Places) where
           let end = (c.from (last_of (rectangle b t)) l).2 in
           let inside = rectangle-from (rectangle b t) full (omega (arith, end.row, full.height)) (omega (arith, end.col, full.width)) in
           let entry = find-member (rectangles m) a s (sym (get-rectangles m a) ∙ has) in
-          let member = filter-from test (rectangle b t) (rectangles_inside places.rows places.columns) inside (any-from (λ (e : Rectangle). carries places e (rectangle b t)) (rectangle a s) (rectangles m) entry (carries-from (rectangle a s) (rectangle b t) c)) in
+          let member = filter-from test (rectangle b t) (rectangles_inside places.size.height places.size.width) inside (any-from (λ (e : Rectangle). carries places e (rectangle b t)) (rectangle a s) (rectangles m) entry (carries-from (rectangle a s) (rectangle b t) c)) in
           let found = member-find (images places (rectangles m)) (rectangle b t) member in
           let got = got-image b ∙ found.1 in
           let d = comes b found.0 got in

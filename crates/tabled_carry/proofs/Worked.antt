@@ -5,19 +5,19 @@ use Rattle.tabled_grid.specs.declared.records.piece_order.PieceOrder.TheVariants
 
 -- a turn to the left
 abbrev left : ℕ → ℕ → Places
-left rows columns = record { rows = columns; columns = rows; old_place = λ (p : Position). Some (place p.col (columns - 1 - p.row)) }
+left rows columns = record { size = sized columns rows; old_place = λ (p : Position). Some (place p.col (columns - 1 - p.row)) }
 
 -- upside down
 abbrev top : ℕ → ℕ → Places
-top rows columns = record { rows = rows; columns = columns; old_place = λ (p : Position). Some (place (rows - 1 - p.row) p.col) }
+top rows columns = record { size = sized rows columns; old_place = λ (p : Position). Some (place (rows - 1 - p.row) p.col) }
 
 -- all columns in the opposite order
 abbrev mirrored : ℕ → ℕ → Places
-mirrored rows columns = record { rows = rows; columns = columns; old_place = λ (p : Position). Some (place p.row (columns - 1 - p.col)) }
+mirrored rows columns = record { size = sized rows columns; old_place = λ (p : Position). Some (place p.row (columns - 1 - p.col)) }
 
 -- the columns of a list alone
 abbrev columns_of : List ℕ → ℕ → ℕ → Places
-columns_of kept rows columns = record { rows = rows; columns = columns; old_place = λ (p : Position). Some (place p.row (slice_index_or kept p.col 0)) }
+columns_of kept rows columns = record { size = sized rows columns; old_place = λ (p : Position). Some (place p.row (slice_index_or kept p.col 0)) }
 
 -- the anchors of what becomes of those of a list
 abbrev after : Places → ℕ → ℕ → List Rectangle → List Rectangle
@@ -56,7 +56,7 @@ crossing_window = refl
 
 -- the lines of a list alone, of those of a map of places whose lines are rows
 abbrev thinned : List ℕ → Places → Places
-thinned kept places = record { rows = length kept; columns = places.columns; old_place = λ (p : Position). places.old_place (place (slice_index_or kept p.row 0) p.col) }
+thinned kept places = record { size = sized (length kept) places.size.width; old_place = λ (p : Position). places.old_place (place (slice_index_or kept p.row 0) p.col) }
 
 -- `a b _ _` cut after two: without its empty second piece
 clean_split : after (thinned (0 ∷ []) (cut_places Rows Zip 2 1 4)) 1 4 (rectangle (place 0 0) (sized 1 2) ∷ rectangle (place 0 2) (sized 1 2) ∷ []) ≡ rectangle (place 0 0) (sized 1 2) ∷ []

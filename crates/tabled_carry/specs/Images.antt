@@ -26,7 +26,7 @@ alike a b = if a then b else not b
 -- the new places of all cells of one rectangle are the cells of another one
 abbrev pub carries : Places → Rectangle → Rectangle → Bool
 carries places e f =
-    list_all (λ (p : Position). alike (old_place_passes (holds e) (places.old_place p)) (holds f p)) (block 0 places.rows 0 places.columns)
+    list_all (λ (p : Position). alike (old_place_passes (holds e) (places.old_place p)) (holds f p)) (block 0 places.size.height 0 places.size.width)
     && list_all (λ (q : Position). list_any (λ (p : Position). old_place_passes (same_place q) (places.old_place p)) (cells_in f)) (cells_in e)
 
 -- the rectangles inside a table
@@ -35,7 +35,7 @@ rectangles_inside rows columns = flat_map (λ (p : Position). map (λ (last : Po
 
 -- the rectangles of a new table that carry one of the old ones
 abbrev pub images : Places → List Rectangle → List Rectangle
-images places es = filter (λ (f : Rectangle). list_any (λ (e : Rectangle). carries places e f) es) (rectangles_inside places.rows places.columns)
+images places es = filter (λ (f : Rectangle). list_any (λ (e : Rectangle). carries places e f) es) (rectangles_inside places.size.height places.size.width)
 
 -- the map of these
 abbrev pub image : Places → SpanMap → SpanMap
@@ -47,8 +47,8 @@ carried places rows columns m = image places (keep_fitting rows columns m)
 
 -- the cell at a new place comes from an old place
 pub record Takes (places : Places) (p q : Position) : Type 0 where
-  pub row : p.row < places.rows
-  pub col : p.col < places.columns
+  pub row : p.row < places.size.height
+  pub col : p.col < places.size.width
   pub from : places.old_place p ≡ Some q
 
 -- all cells of a rectangle have new places, and these are the cells of another one

@@ -82,14 +82,14 @@ fn carried_fitting<M: MovesRectangles>(moves: &M, cfg: SpannedConfig, table: Siz
     ensures image { result ≡ image (M.places moves.now) cfg }
 {
     let mut anchors = cfg.into_rectangles();
-    carry(moves, &mut anchors, table.height, table.width);
+    carry(moves, &mut anchors, table);
     SpannedConfig::from_rectangles(anchors)
 }
 
 /// Puts the rectangles that those of a list are carried to in their stead, row by row.
-fn carry<M: MovesRectangles>(moves: &M, anchors: &mut Vec<Rectangle>, rows: usize, columns: usize)
+fn carry<M: MovesRectangles>(moves: &M, anchors: &mut Vec<Rectangle>, table: Size)
     requires anchors { AreAnchors anchors.old.items }
-    requires fits { Fits (map_of anchors.old.items) rows columns }
+    requires fits { Fits (map_of anchors.old.items) table.height table.width }
     ensures anchors { AreAnchors anchors.new.items }
     ensures image { map_of anchors.new.items ≡ image (M.places moves.now) (map_of anchors.old.items) }
 {

@@ -32,12 +32,12 @@ pub fn there_is_one_image()
 
 /// What is carried along lies inside the new table and apart, whatever the map was before.
 pub fn carried_rectangles_fit()
-    ensures { (places : Places) (rows columns : ℕ) (m : SpanMap) → Fits (carried places rows columns m) places.rows places.columns }
+    ensures { (places : Places) (rows columns : ℕ) (m : SpanMap) → Fits (carried places rows columns m) places.size.height places.size.width }
 {}
 
 /// Merged cells that fit and are all carried along are as they were, once they are carried back.
 pub fn carried_there_and_back_is_as_it_was()
-    ensures { (there : Places) (back : Places) (rows columns : ℕ) (m : SpanMap) → LeadsBack there back → CarriesAll there m → Fits m rows columns → carried back there.rows there.columns (carried there rows columns m) ≡ m }
+    ensures { (there : Places) (back : Places) (rows columns : ℕ) (m : SpanMap) → LeadsBack there back → CarriesAll there m → Fits m rows columns → carried back there.size.height there.size.width (carried there rows columns m) ≡ m }
 {}
 
 /// Where the cells of a table keep their places, those merged cells stay that fit it.

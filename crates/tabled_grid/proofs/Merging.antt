@@ -4,7 +4,7 @@ use Rattle.tabled_grid.proofs.Common.{[], ◌+◌, ◌<◌, ◌∙◌, ◌∷◌
 use borrow.Author.Tests.{eqb-true}
 use Rattle.tabled_grid.proofs.Geometry.{Flat, Hooked, Narrow, Widened, LieWithin, cases_place, flat_flipped, flat_widened, flip, flip_size, flipped, full_flipped, hooked_flat, hooked_flipped, hooked_widened, narrow_flipped, visible_flipped, within_flipped, within_widened}
 use Rattle.tabled_grid.proofs.SortedEntries.{span_at}
-use Rattle.tabled_grid.proofs.SpanMaps.{At, Kept, at, full, kept, kept_or_one, none, size_at-none, size_at-some, size_at-with_size, size_at-with_size-other, some, visible, with_size-other}
+use Rattle.tabled_grid.proofs.SpanMaps.{At, HasVisible, at, full, kept, kept_or_one, none, size_at-none, size_at-some, size_at-with_size, size_at-with_size-other, some, visible, with_size-other}
 
 -- rectangles that fit
 
@@ -47,7 +47,7 @@ midway m rows columns fits = record {
 pub fits_dropped : (m : SpanMap) (rows columns : ℕ) → Midway m rows columns → Fits (drop_hidden m) rows columns
 fits_dropped m rows columns mid = record { each = λ e is. record { inside = inside e (kept m e.first e.size is); alone = λ f p js i j. alone e f p (kept m e.first e.size is) (kept m f.first f.size js) i j } }
   where
-    inside : (e : Rectangle) → Kept m e.first e.size → LiesInside rows columns e
+    inside : (e : Rectangle) → HasVisible m e.first e.size → LiesInside rows columns e
     inside e was =
         let is = size_at-some m e.first e.size was.had in
         let more = (span_at m e.first e.size was.had).merges in
@@ -57,7 +57,7 @@ fits_dropped m rows columns mid = record { each = λ e is. record { inside = ins
     in_one a b sa sb (inl h) = visible m b sb a h
     in_one a b sa sb (inr h) = sym (visible m a sa b h)
 
-    alone : (e f : Rectangle) (p : Position) → Kept m e.first e.size → Kept m f.first f.size → In e p → In f p → e.first ≡ f.first
+    alone : (e f : Rectangle) (p : Position) → HasVisible m e.first e.size → HasVisible m f.first f.size → In e p → In f p → e.first ≡ f.first
     alone e f p ka kb i j = in_one e.first f.first ka.shown kb.shown (mid.hooked.hook e.first f.first p (rw (size_at-some m e.first e.size ka.had) i) (rw (size_at-some m f.first f.size kb.had) j))
 
 -- widths and heights that are set

@@ -92,7 +92,7 @@ module _ (rows columns : ℕ) (es : List Rectangle) where
   fits e = fits_among rows columns (elsewhere e.first es) e
 
   -- those before an index that fit are kept, and those from there on are marked that one before the index meets
-  pub record Kept (i : ℕ) (kept : List Rectangle) (marks : List Bool) : Type 0 where
+  pub record KeepsFittingBefore (i : ℕ) (kept : List Rectangle) (marks : List Bool) : Type 0 where
     pub long : length marks ≡ length es
     pub fit : kept ≡ filter fits (take i es)
     pub met : drop i marks ≡ map (λ (e : Rectangle). list_any (λ (f : Rectangle). meets f e) (take i es)) (drop i es)
@@ -101,10 +101,10 @@ module _ (rows columns : ℕ) (es : List Rectangle) where
   none_met [] = refl
   none_met (f ∷ fs) = ap (λ ms. false ∷ ms) (none_met fs)
 
-  pub kept-none : (marks : List Bool) → marks ≡ replicate (length es) false → Kept 0 [] marks
+  pub kept-none : (marks : List Bool) → marks ≡ replicate (length es) false → KeepsFittingBefore 0 [] marks
   kept-none marks is = record { long = ap length is ∙ length-replicate (length es) false; fit = refl; met = is ∙ none_met es }
 
-  module _ (i : ℕ) (d : Rectangle) (here : i < length es) (kept : List Rectangle) (marks : List Bool) (so : Kept i kept marks) where
+  module _ (i : ℕ) (d : Rectangle) (here : i < length es) (kept : List Rectangle) (marks : List Bool) (so : KeepsFittingBefore i kept marks) where
     heads : (get_or marks i false ≡ list_any (λ (f : Rectangle). meets f (get_or es i d)) (take i es)) × (drop (i + 1) marks ≡ map (λ (e : Rectangle). list_any (λ (f : Rectangle). meets f e) (take i es)) (drop (i + 1) es))
     heads =
         let within : i < length marks = omega (arith, so.long) in
@@ -125,7 +125,7 @@ module _ (rows columns : ℕ) (es : List Rectangle) where
     pub kept-more : AreSorted es → (now new rest : List Bool) (len : ℕ) (newer : List Rectangle) (alone met unset : Bool) → now ≡ marks → len ≡ length now → length new ≡ length (take (length now - (i + 1)) (drop (i + 1) now)) →
         new ≡ with_met (get_or es i d) (take (length es - (i + 1)) (drop (i + 1) es)) (take (length now - (i + 1)) (drop (i + 1) now)) →
         alone ≡ list_all (λ (f : Rectangle). not (meets (get_or es i d) f)) (take (length es - (i + 1)) (drop (i + 1) es)) → met ≡ get_or marks i unset →
-        newer ≡ cond ((alone && not met) && lies_inside rows columns (get_or es i d)) (kept ++ get_or es i d ∷ []) kept → Kept (i + 1) newer (take len (put_mid (i + 1) (length now - (i + 1)) now new ++ rest))
+        newer ≡ cond ((alone && not met) && lies_inside rows columns (get_or es i d)) (kept ++ get_or es i d ∷ []) kept → KeepsFittingBefore (i + 1) newer (take len (put_mid (i + 1) (length now - (i + 1)) now new ++ rest))
     kept-more up now new rest len newer alone met unset same full long new_is alone_is met_is newer_is =
         let e = get_or es i d in
         let within : i < length now = omega (arith, so.long, ap length same) in

@@ -33,7 +33,7 @@ counts_of : {A : Type 0} (axis : Axis) (g : Grid A) (m n : ℕ) → g.rows ≡ c
 counts_of Rows g m n h k = (h, k)
 counts_of Columns g m n h k = (k, h)
 
-within_shape : (axis : Axis) (t b m n : ℕ) (places : Places) → places.rows ≡ count_of axis m n → places.columns ≡ count_of axis n m → t < m → b < n → Within places (place_in axis t b)
+within_shape : (axis : Axis) (t b m n : ℕ) (places : Places) → places.size.height ≡ count_of axis m n → places.size.width ≡ count_of axis n m → t < m → b < n → Within places (place_in axis t b)
 within_shape Rows t b m n places tall wide h k = record { row = omega (arith, h, tall); col = omega (arith, k, wide) }
 within_shape Columns t b m n places tall wide h k = record { row = omega (arith, k, tall); col = omega (arith, h, wide) }
 

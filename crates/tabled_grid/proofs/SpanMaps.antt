@@ -159,11 +159,11 @@ module _ (m : SpanMap) (p : Position) (size : Size) where
 pub get-drop_hidden : (m : SpanMap) (q : Position) → get (drop_hidden m) q ≡ cond (is_visible m q) (get m q) None
 get-drop_hidden m q = get-retain m (is_visible m) q
 
-pub record Kept (m : SpanMap) (a : Position) (size : Size) : Type 0 where
+pub record HasVisible (m : SpanMap) (a : Position) (size : Size) : Type 0 where
   pub had : get m a ≡ Some size
   pub shown : is_visible m a ≡ true
 
-pub kept : (m : SpanMap) (a : Position) (size : Size) → get (drop_hidden m) a ≡ Some size → Kept m a size
+pub kept : (m : SpanMap) (a : Position) (size : Size) → get (drop_hidden m) a ≡ Some size → HasVisible m a size
 kept m a size has = grind (arith, common_steps, cases_Bool, get-drop_hidden, at, none-some)
 
 -- after hidden anchors are dropped a place has the size that it had, or that of one cell

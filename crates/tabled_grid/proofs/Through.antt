@@ -12,8 +12,8 @@ pub record MovesThrough {A : Type 0} (is_blank : A → Type 0) (places : Places)
   pub now_rows : now.rows ≡ old.rows
   pub now_columns : now.columns ≡ old.columns
   pub even : IsEven new
-  pub rows : new.rows ≡ places.rows
-  pub columns : new.columns ≡ places.columns
+  pub rows : new.rows ≡ places.size.height
+  pub columns : new.columns ≡ places.size.width
   pub done : (p q : Position) → Within places p → IsBefore p (place i j) → places.old_place p ≡ Some q → cell_at new p ≡ cell_at old q
   pub left : (p q : Position) → Within places p → IsFrom p (place i j) → places.old_place p ≡ Some q → cell_at now q ≡ cell_at old q
   pub blank : (p : Position) → Within places p → IsFrom p (place i j) ⊎ (places.old_place p ≡ None) → (c : A) × is_blank c × (cell_at new p ≡ Some c)
@@ -46,7 +46,7 @@ pub blank_cell : {A : Type 0} (is_blank : A → Type 0) (columns : ℕ) (g : Gri
 blank_cell is_blank columns g p even blanks row col = grind (arith, common_steps, All-from_recursion, blank_at)
 
 module _ {A : Type 0} (is_blank : A → Type 0) (places : Places) (old : Grid A) where
-  pub through_none : (columns : ℕ) (new : Grid A) → IsEven old → IsEven new → new.rows ≡ places.rows → new.columns ≡ columns → columns ≡ places.columns → AllByRecursion (AreBlanks is_blank columns) new.cells → MovesThrough is_blank places 0 0 old old new
+  pub through_none : (columns : ℕ) (new : Grid A) → IsEven old → IsEven new → new.rows ≡ places.size.height → new.columns ≡ columns → columns ≡ places.size.width → AllByRecursion (AreBlanks is_blank columns) new.cells → MovesThrough is_blank places 0 0 old old new
   through_none columns new old_even even rows columns_are same blanks = record {
     now_even = old_even;
     now_rows = refl;

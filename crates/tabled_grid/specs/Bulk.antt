@@ -6,6 +6,7 @@ use Rattle.tabled_grid.specs.Grid.{Grid, cell_at, map_grid, with_cell}
 use Rattle.tabled_grid.specs.Moves.{AddsBlanks}
 use Rattle.tabled_grid.specs.Places.{Places}
 use Rattle.tabled_grid.specs.Resized.{AreBlanks}
+use Rattle.tabled_grid.specs.Spans.{sized}
 use Rattle.tabled_grid.specs.declared.config.position.Position.{Position}
 
 -- n rows of blanks are put below the last row
@@ -36,7 +37,7 @@ transposed g = record { rows = g.columns; columns = if g.columns == 0 then 0 els
 
 -- r rows and c columns change places
 abbrev pub turned_places : ℕ → ℕ → Places
-turned_places rows columns = record { rows = columns; columns = rows; old_place = λ (p : Position). Some (place p.col p.row) }
+turned_places rows columns = record { size = sized columns rows; old_place = λ (p : Position). Some (place p.col p.row) }
 
 -- the cell in a row and a column, none outside
 abbrev pub cell_in : {A : Type 0} → Grid A → ℕ → ℕ → Option A

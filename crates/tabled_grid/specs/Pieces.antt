@@ -3,6 +3,7 @@ use Rattle.std.specs.Prelude.{◌≡◌, ◌<◌, ℕ, ◌+◌, ◌*◌, ◌/◌
 use Rattle.std.specs.Int.{div_ceil}
 use Rattle.tabled_grid.specs.Axis.{across, count_of, line_of, place_in}
 use Rattle.tabled_grid.specs.Places.{Places}
+use Rattle.tabled_grid.specs.Spans.{sized}
 use Rattle.tabled_grid.specs.declared.config.position.Position.{Position}
 use Rattle.tabled_grid.specs.declared.records.axis.Axis.{Axis}
 use Rattle.tabled_grid.specs.declared.records.piece_order.PieceOrder.{PieceOrder}
@@ -31,8 +32,7 @@ index_in_line order index lines pieces t b = (nth_piece order lines pieces t).1 
 -- all pieces of r lines of c cells; those after the end of a line come from nowhere
 abbrev pub cut_places : Axis → PieceOrder → ℕ → ℕ → ℕ → Places
 cut_places axis order index lines width = record {
-  rows = count_of axis (lines * div_ceil width index) index;
-  columns = count_of axis index (lines * div_ceil width index);
+  size = sized (count_of axis (lines * div_ceil width index) index) (count_of axis index (lines * div_ceil width index));
   old_place = λ (p : Position).
       if nat_lt (index_in_line order index lines (div_ceil width index) (line_of axis p) (line_of (across axis) p)) width
       then Some (place_in axis (nth_piece order lines (div_ceil width index) (line_of axis p)).0 (index_in_line order index lines (div_ceil width index) (line_of axis p) (line_of (across axis) p)))

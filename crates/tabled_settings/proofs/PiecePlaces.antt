@@ -24,7 +24,7 @@ module _ {A : Type 0} (is_blank : A → Type 0) (axis : Axis) (kept : List ℕ) 
   reads : ReadsThrough (lines_from axis from new.rows new.columns) mid new
   reads = lines_read axis from new.rows new.columns mid new even refl refl (λ a h. (each a (omega (arith, h, count))).0)
 
-  shape_of : (axis : Axis) → count_along axis new ≡ length kept → count_along (across axis) new ≡ count_along (across axis) mid → (new.rows ≡ (thinned axis kept places).rows) × (new.columns ≡ (thinned axis kept places).columns)
+  shape_of : (axis : Axis) → count_along axis new ≡ length kept → count_along (across axis) new ≡ count_along (across axis) mid → (new.rows ≡ (thinned axis kept places).size.height) × (new.columns ≡ (thinned axis kept places).size.width)
   shape_of Rows n m = (n, m ∙ fills.reads.columns)
   shape_of Columns n m = (m ∙ fills.reads.rows, n)
 

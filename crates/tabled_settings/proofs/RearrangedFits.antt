@@ -5,11 +5,11 @@ use Rattle.tabled_settings.specs.declared.reverse.Reverse.{Reverse}
 use Rattle.tabled_spans.proofs.PanelGeometry.{same_fits}
 
 -- what is carried along fits the new shape
-pub carried_fit : (places : Places) (rows columns tall wide : ℕ) (c d : SpanMap) → tall ≡ places.rows → wide ≡ places.columns → d ≡ carried places rows columns c → Fits d tall wide
+pub carried_fit : (places : Places) (rows columns tall wide : ℕ) (c d : SpanMap) → tall ≡ places.size.height → wide ≡ places.size.width → d ≡ carried places rows columns c → Fits d tall wide
 carried_fit places rows columns tall wide c d rows_are columns_are is = rw (rows_are, columns_are, is) (carried-fits places rows columns c)
 
 -- also where it moves nothing
-pub carried_if_fit : (moves : Bool) (places : Places) (rows columns tall wide : ℕ) (c d : SpanMap) → Fits c rows columns → tall ≡ places.rows → wide ≡ places.columns → (moves ≡ false → (tall ≡ rows) × (wide ≡ columns)) → d ≡ carried_if moves places rows columns c → Fits d tall wide
+pub carried_if_fit : (moves : Bool) (places : Places) (rows columns tall wide : ℕ) (c d : SpanMap) → Fits c rows columns → tall ≡ places.size.height → wide ≡ places.size.width → (moves ≡ false → (tall ≡ rows) × (wide ≡ columns)) → d ≡ carried_if moves places rows columns c → Fits d tall wide
 carried_if_fit true places rows columns tall wide c d fits rows_are columns_are stays is = carried_fit places rows columns tall wide c d rows_are columns_are is
 carried_if_fit false places rows columns tall wide c d fits rows_are columns_are stays is = let same = stays refl in rw (same.0, same.1, is) fits
 

@@ -19,7 +19,7 @@ module _ (there back : Places) (leads : LeadsBack there back) where
       record { to = p; row = goes.row; col = goes.col; takes = goes.from; alone = λ r row col is. takes_one back q r p (leads.to r q (record { row = row; col = col; from = is })) t }
 
   -- a grid that is read there and back
-  pub as_it_was : {A : Type 0} (g h l : Grid A) → IsEven g → back.rows ≡ g.rows → back.columns ≡ g.columns → ((q : Position) → q.row < back.rows → q.col < back.columns → (p : Position) × Takes back q p) → ReadsThrough there g h → ReadsThrough back h l → l ≡ g
+  pub as_it_was : {A : Type 0} (g h l : Grid A) → IsEven g → back.size.height ≡ g.rows → back.size.width ≡ g.columns → ((q : Position) → q.row < back.size.height → q.col < back.size.width → (p : Position) × Takes back q p) → ReadsThrough there g h → ReadsThrough back h l → l ≡ g
   as_it_was g h l even rows columns all first second =
       same_cells l g second.even even (second.rows ∙ rows) (second.columns ∙ columns)
       (λ a b i k.

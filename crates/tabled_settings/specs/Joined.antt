@@ -9,13 +9,13 @@ use Rattle.tabled_grid.specs.declared.config.position.Position.{Position}
 use Rattle.tabled_grid.specs.declared.records.axis.Axis.{Axis}
 use Rattle.tabled_grid.specs.declared.records.axis.Axis.TheVariants.{Rows, Columns}
 use Rattle.tabled_grid.specs.Places.{Places, ReadsThrough}
-use Rattle.tabled_grid.specs.Spans.{SpanMap}
+use Rattle.tabled_grid.specs.Spans.{SpanMap, sized}
 use Rattle.tabled_carry.specs.Images.{carried}
 use Rattle.tabled_options.specs.Does.{Change}
 
 -- a larger shape, in which the old places stay where they are
 abbrev pub widened : ℕ → ℕ → ℕ → ℕ → Places
-widened rows columns new_rows new_columns = record { rows = new_rows; columns = new_columns; old_place = λ (p : Position). if nat_lt p.row rows && nat_lt p.col columns then Some p else None }
+widened rows columns new_rows new_columns = record { size = sized new_rows new_columns; old_place = λ (p : Position). if nat_lt p.row rows && nat_lt p.col columns then Some p else None }
 
 -- where the second table begins in a first one of r rows and c columns: below it, or right of it
 abbrev pub corner_of : Axis → ℕ → ℕ → Position

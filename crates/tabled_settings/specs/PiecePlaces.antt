@@ -7,7 +7,7 @@ use Rattle.tabled_grid.specs.Grid.{Grid, map_grid}
 use Rattle.tabled_grid.specs.Axis.{across, count_of, in_line, line_of}
 use Rattle.tabled_grid.specs.Pieces.{cut_places, piece_index}
 use Rattle.tabled_grid.specs.Places.{FillsThrough, Places}
-use Rattle.tabled_grid.specs.Spans.{SpanMap}
+use Rattle.tabled_grid.specs.Spans.{SpanMap, sized}
 use Rattle.tabled_grid.specs.declared.config.position.Position.{Position}
 use Rattle.tabled_grid.specs.declared.records.axis.Axis.{Axis}
 use Rattle.tabled_grid.specs.declared.records.piece_order.PieceOrder.{PieceOrder}
@@ -20,13 +20,12 @@ use Rattle.tabled_settings.specs.Rearranged.{carried_if}
 
 -- each place keeps its cell
 abbrev pub same_places : ℕ → ℕ → Places
-same_places rows columns = record { rows = rows; columns = columns; old_place = λ (p : Position). Some p }
+same_places rows columns = record { size = sized rows columns; old_place = λ (p : Position). Some p }
 
 -- some lines alone, in order: the t-th one is the t-th of these
 abbrev pub thinned : Axis → List ℕ → Places → Places
 thinned axis kept places = record {
-  rows = count_of axis (length kept) places.rows;
-  columns = count_of axis places.columns (length kept);
+  size = sized (count_of axis (length kept) places.size.height) (count_of axis places.size.width (length kept));
   old_place = λ (p : Position). places.old_place (in_line axis p (slice_index_or kept (line_of axis p) 0));
 }
 

@@ -31,7 +31,7 @@ carried_if moves places rows columns m = if moves then carried places rows colum
 
 -- each row, or each column, comes from an old one
 abbrev pub lines_from : Axis → (ℕ → ℕ) → ℕ → ℕ → Places
-lines_from axis from rows columns = record { rows = rows; columns = columns; old_place = λ (p : Position). Some (in_line axis p (from (line_of axis p))) }
+lines_from axis from rows columns = record { size = sized rows columns; old_place = λ (p : Position). Some (in_line axis p (from (line_of axis p))) }
 
 -- n columns, of which there are none without rows
 abbrev pub columns_if : ℕ → ℕ → ℕ
@@ -39,12 +39,12 @@ columns_if rows columns = if rows == 0 then 0 else columns
 
 -- a table upside down
 abbrev pub upside_down : ℕ → ℕ → Places
-upside_down rows columns = record { rows = rows; columns = columns; old_place = λ (p : Position). Some (place (rows - 1 - p.row) p.col) }
+upside_down rows columns = record { size = sized rows columns; old_place = λ (p : Position). Some (place (rows - 1 - p.row) p.col) }
 
 -- a table turned to the left or to the right, or upside down
 abbrev pub rotated : Rotate → ℕ → ℕ → Places
-rotated Left rows columns = record { rows = columns; columns = columns_if columns rows; old_place = λ (p : Position). Some (place p.col (columns - 1 - p.row)) }
-rotated Right rows columns = record { rows = columns; columns = columns_if columns rows; old_place = λ (p : Position). Some (place (rows - 1 - p.col) p.row) }
+rotated Left rows columns = record { size = sized columns (columns_if columns rows); old_place = λ (p : Position). Some (place p.col (columns - 1 - p.row)) }
+rotated Right rows columns = record { size = sized columns (columns_if columns rows); old_place = λ (p : Position). Some (place (rows - 1 - p.col) p.row) }
 rotated Top rows columns = upside_down rows columns
 rotated Bottom rows columns = upside_down rows columns
 
@@ -76,7 +76,7 @@ count_in range n = min (end_index range.1 n) n - first_index range.0
 
 -- the cells of a rectangle
 abbrev pub window : Rectangle → Places
-window cells = record { rows = cells.size.height; columns = cells.size.width; old_place = λ (p : Position). Some (place (cells.first.row + p.row) (cells.first.col + p.col)) }
+window cells = record { size = cells.size; old_place = λ (p : Position). Some (place (cells.first.row + p.row) (cells.first.col + p.col)) }
 
 -- the rows from one index up to another, and of these the columns from one up to another, of r rows and c columns
 abbrev pub part : ℕ → ℕ → ℕ → ℕ → ℕ → ℕ → Places
@@ -134,7 +134,7 @@ spans_reversed axis rows columns m = carried (reversed axis 0 (End 0) rows colum
 
 -- a table with its rows and its columns in the opposite order
 abbrev pub half_rotated : ℕ → ℕ → Places
-half_rotated rows columns = record { rows = rows; columns = columns; old_place = λ (p : Position). Some (place (rows - 1 - p.row) (columns - 1 - p.col)) }
+half_rotated rows columns = record { size = sized rows columns; old_place = λ (p : Position). Some (place (rows - 1 - p.row) (columns - 1 - p.col)) }
 
 -- a table is another one, with its rows and its columns in the opposite order
 abbrev pub IsHalfRotated : {A : Type 0} → Grid A → Grid A → Type 0

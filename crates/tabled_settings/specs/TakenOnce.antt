@@ -6,10 +6,10 @@ use Rattle.tabled_grid.specs.declared.config.position.Position.{Position}
 -- an old place is that of exactly one new place
 pub record IsTakenOnce (places : Places) (q : Position) : Type 0 where
   pub to : Position
-  pub row : to.row < places.rows
-  pub col : to.col < places.columns
+  pub row : to.row < places.size.height
+  pub col : to.col < places.size.width
   pub takes : places.old_place to ≡ Some q
-  pub alone : (p : Position) → p.row < places.rows → p.col < places.columns → places.old_place p ≡ Some q → p ≡ to
+  pub alone : (p : Position) → p.row < places.size.height → p.col < places.size.width → places.old_place p ≡ Some q → p ≡ to
 
 -- each cell of a table of r rows and c columns is taken to exactly one new place
 abbrev pub TakesEachOnce : Places → ℕ → ℕ → Type 0

@@ -52,7 +52,7 @@ even_split how g even = elim (cases_Bool (has_pieces how g.rows g.columns)) [
     turned_cut Columns index = turned_even Columns (cut_rows how (oriented how.lines g)) (cut_even how (oriented how.lines g)) index
 
 even_read : (from : Places) (s : State) → IsEven (read from s.texts)
-even_read from s = IsEven-table_of from.rows from.columns (λ (p : Position). unwrap_or (option_and_then (cell_at s.texts) (from.old_place p)) [])
+even_read from s = IsEven-table_of from.size.height from.size.width (λ (p : Position). unwrap_or (option_and_then (cell_at s.texts) (from.old_place p)) [])
 
 even_joined : (axis : Axis) (second : Grid (List ℕ)) (default : List ℕ) (g : Grid (List ℕ)) → IsEven (joined_tables axis second default g)
 even_joined axis second default g = let corner = corner_of axis g.rows g.columns in IsEven-table_of (max g.rows (corner.row + second.rows)) (max g.columns (corner.col + second.columns)) (λ (p : Position). cond (nat_lt p.row g.rows && nat_lt p.col g.columns) (text_at g p) (joined_text corner second default p.row p.col))

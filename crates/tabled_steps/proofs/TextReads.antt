@@ -45,7 +45,7 @@ module _ {A : Type 0} (text_of : A → List ℕ) (old new : Grid A) where
 
   -- the texts of a grid that is read through a map of places, each of which has an old one
   pub read_through : (places : Places) → ((p : Position) → (q : Position) × (places.old_place p ≡ Some q)) → ReadsThrough places old new → map_grid text_of new ≡ read places (map_grid text_of old)
-  read_through places total reads = is_table_of text_of new places.rows places.columns (λ (p : Position). unwrap_or (option_and_then (cell_at (map_grid text_of old)) (places.old_place p)) []) reads.even reads.rows reads.columns (λ a b h k.
+  read_through places total reads = is_table_of text_of new places.size.height places.size.width (λ (p : Position). unwrap_or (option_and_then (cell_at (map_grid text_of old)) (places.old_place p)) []) reads.even reads.rows reads.columns (λ a b h k.
       let row : a < new.rows = omega (arith, reads.rows, h) in
       let col : b < new.columns = omega (arith, reads.columns, k) in
       let inside : IsInside new (place a b) = record { row = row; col = col } in

@@ -16,7 +16,7 @@ texts_by_place rows columns text = record { rows = rows; columns = columns; cell
 
 -- the texts that a map of places takes from a table
 abbrev pub read : Places → Grid (List ℕ) → Grid (List ℕ)
-read places g = texts_by_place places.rows places.columns (λ (p : Position). unwrap_or (option_and_then (cell_at g) (places.old_place p)) [])
+read places g = texts_by_place places.size.height places.size.width (λ (p : Position). unwrap_or (option_and_then (cell_at g) (places.old_place p)) [])
 
 -- a table with a second one below it or right of it, with a default text where there is none of either
 abbrev pub joined_tables : Axis → Grid (List ℕ) → List ℕ → Grid (List ℕ) → Grid (List ℕ)

@@ -62,8 +62,8 @@ where
     P: Rearrange,
     requires well { R.is_well_formed records.old }
     requires some { 0 < rows }
-    requires rows { rows ≡ (P.places places.now).rows }
-    requires columns { columns ≡ (P.places places.now).columns }
+    requires rows { rows ≡ (P.places places.now).size.height }
+    requires columns { columns ≡ (P.places places.now).size.width }
     requires once { TakesOnce (P.places places.now) (R.grid records.old) }
     ensures well { R.is_well_formed records.new }
     ensures ok { OnOk result (FillsThrough R.Cell.is_blank (P.places places.now) (R.grid records.old) (R.grid records.new)) }

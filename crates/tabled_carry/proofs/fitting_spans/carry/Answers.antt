@@ -13,18 +13,18 @@ module _ (g : _) (c : After-index g) where
   read : get_or c.args.anchors.now.items c.loop-index.index c.index.result.now ≡ c.index.result.now
   read = sym (c.loop-index.invariant.rest c.loop-index.index c.index.result.now (omega arith)) ∙ sym c.index.ensures
 
-  inside : LiesInside c.args.rows c.args.columns c.index.result.now
-  inside = subst (LiesInside c.args.rows c.args.columns) read (next-inside (g.M.Moves.places c.args.moves.now) c.args.anchors.now.items [] c.loop-index.index c.args.rows c.args.columns c.index.result.now c.requires.anchors c.requires.fits here)
+  inside : LiesInside c.args.table.height c.args.table.width c.index.result.now
+  inside = subst (LiesInside c.args.table.height c.args.table.width) read (next-inside (g.M.Moves.places c.args.moves.now) c.args.anchors.now.items [] c.loop-index.index c.args.table.height c.args.table.width c.index.result.now c.requires.anchors c.requires.fits here)
 
 pub new_rectangle-requires-clause-bottom : goal.new_rectangle-requires-clause-bottom
 new_rectangle-requires-clause-bottom g c =
     let before = (goal.at.new_rectangle-requires-clause-bottom g c).After-index in
-    omega (arith, (inside g before).bottom, c.ranges.rows.fits)
+    omega (arith, (inside g before).bottom, c.ranges.table.height.fits)
 
 pub new_rectangle-requires-clause-right : goal.new_rectangle-requires-clause-right
 new_rectangle-requires-clause-right g c =
     let before = (goal.at.new_rectangle-requires-clause-right g c).After-index in
-    omega (arith, (inside g before).right, c.ranges.columns.fits)
+    omega (arith, (inside g before).right, c.ranges.table.width.fits)
 
 pub loop-index-preserved : goal.loop-index-preserved
 loop-index-preserved g c =
@@ -34,8 +34,8 @@ loop-index-preserved g c =
     let u = c.loop-index.invariant in
     let front = take c.loop-index.count c.loop-index.anchors.items in
     elim c.match-new_rectangle.branch [
-      | goal.in-Some w ↦ rw (w.anchors-is, w.count-is) (underway-some places c.args.anchors.now.items c.loop-index.anchors.items c.loop-index.count c.loop-index.index u (here g before) w.in-Some.image (next-some places c.args.anchors.now.items front c.loop-index.index c.args.rows c.args.columns e c.requires.anchors c.requires.fits (here g before) w.in-Some.image u.images (subst (λ (d : Rectangle). Carries places d w.in-Some.image) (sym (read g before)) w.in-Some.ensures.carries) w.in-Some.ensures.full))
-      | goal.in_default w ↦ rw (w.anchors-is, w.count-is) (underway-none places c.args.anchors.now.items c.loop-index.anchors.items c.loop-index.count c.loop-index.index u (here g before) (next-none places c.args.anchors.now.items front c.loop-index.index c.args.rows c.args.columns e c.requires.anchors c.requires.fits (here g before) u.images (λ f carries full. none-some f (w.in_default.ensures.finds f (subst (λ (d : Rectangle). Carries places d f) (read g before) carries) full))))
+      | goal.in-Some w ↦ rw (w.anchors-is, w.count-is) (underway-some places c.args.anchors.now.items c.loop-index.anchors.items c.loop-index.count c.loop-index.index u (here g before) w.in-Some.image (next-some places c.args.anchors.now.items front c.loop-index.index c.args.table.height c.args.table.width e c.requires.anchors c.requires.fits (here g before) w.in-Some.image u.images (subst (λ (d : Rectangle). Carries places d w.in-Some.image) (sym (read g before)) w.in-Some.ensures.carries) w.in-Some.ensures.full))
+      | goal.in_default w ↦ rw (w.anchors-is, w.count-is) (underway-none places c.args.anchors.now.items c.loop-index.anchors.items c.loop-index.count c.loop-index.index u (here g before) (next-none places c.args.anchors.now.items front c.loop-index.index c.args.table.height c.args.table.width e c.requires.anchors c.requires.fits (here g before) u.images (λ f carries full. none-some f (w.in_default.ensures.finds f (subst (λ (d : Rectangle). Carries places d f) (read g before) carries) full))))
     ]
 
 -- the vector holds what its items were sorted to
@@ -57,7 +57,7 @@ returns-clause-anchors g c =
     let old = c.args.anchors.now.items in
     let ys = c.sort.new.rectangles in
     let im = sorted g (goal.at.returns-clause-anchors g c).After-sort in
-    subst (λ (zs : List Rectangle). AreAnchors zs) (sym (written c.truncate.new.self.len ys c.truncate.new.self.items (c.sort.ensures.len ∙ c.deref_mut.ensures.len))) (images-anchors places old ys c.args.rows c.args.columns c.requires.anchors c.requires.fits im (rising-sorted places old ys c.sort.ensures.sorted im))
+    subst (λ (zs : List Rectangle). AreAnchors zs) (sym (written c.truncate.new.self.len ys c.truncate.new.self.items (c.sort.ensures.len ∙ c.deref_mut.ensures.len))) (images-anchors places old ys c.args.table.height c.args.table.width c.requires.anchors c.requires.fits im (rising-sorted places old ys c.sort.ensures.sorted im))
 
 pub returns-clause-image : goal.returns-clause-image
 returns-clause-image g c =
@@ -65,4 +65,4 @@ returns-clause-image g c =
     let old = c.args.anchors.now.items in
     let ys = c.sort.new.rectangles in
     let im = sorted g (goal.at.returns-clause-image g c).After-sort in
-    ap map_of (written c.truncate.new.self.len ys c.truncate.new.self.items (c.sort.ensures.len ∙ c.deref_mut.ensures.len)) ∙ images-make places old ys c.args.rows c.args.columns c.requires.anchors c.requires.fits im (rising-sorted places old ys c.sort.ensures.sorted im)
+    ap map_of (written c.truncate.new.self.len ys c.truncate.new.self.items (c.sort.ensures.len ∙ c.deref_mut.ensures.len)) ∙ images-make places old ys c.args.table.height c.args.table.width c.requires.anchors c.requires.fits im (rising-sorted places old ys c.sort.ensures.sorted im)
