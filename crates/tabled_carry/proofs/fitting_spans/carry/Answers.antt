@@ -1,4 +1,4 @@
-use Rattle.tabled_carry.proofs.Common.{[], ◌++◌, ◌+◌, ◌<◌, ◌∙◌, ◌≡◌, ◌≤◌, AreAnchors, Carries, LiesInside, List, Rectangle, ap, arith, drop, get_or, length, map_of, none-some, subst, sym, take, take_all, ℕ}
+use Rattle.tabled_carry.proofs.Common.{[], ◌++◌, ◌+◌, ◌<◌, ◌^◌, ◌∙◌, ◌≡◌, ◌≤◌, AreAnchors, Carries, LiesInside, List, Rectangle, ap, arith, drop, get_or, length, map_of, none-some, rules, subst, sym, take, take_all, ℕ}
 use Rattle.std.proofs.Math.Seq.{take-append_seam}
 use Rattle.tabled_carry.proofs.Carrying.{Images, images-anchors, images-make, images-sorted, next-inside, next-none, next-some, rising-sorted}
 use Rattle.tabled_carry.proofs.InPlace.{underway-none, underway-some}
@@ -19,12 +19,14 @@ module _ (g : _) (c : After-index g) where
 pub new_rectangle-requires-clause-bottom : goal.new_rectangle-requires-clause-bottom
 new_rectangle-requires-clause-bottom g c =
     let before = (goal.at.new_rectangle-requires-clause-bottom g c).After-index in
-    omega (arith, (inside g before).bottom, c.ranges.table.height.fits)
+    let fits : c.args.table.height < 2 ^ 64 = search rules in
+    omega (arith, (inside g before).bottom, fits)
 
 pub new_rectangle-requires-clause-right : goal.new_rectangle-requires-clause-right
 new_rectangle-requires-clause-right g c =
     let before = (goal.at.new_rectangle-requires-clause-right g c).After-index in
-    omega (arith, (inside g before).right, c.ranges.table.width.fits)
+    let fits : c.args.table.width < 2 ^ 64 = search rules in
+    omega (arith, (inside g before).right, fits)
 
 pub loop-index-preserved : goal.loop-index-preserved
 loop-index-preserved g c =
