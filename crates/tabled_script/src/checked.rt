@@ -17,7 +17,8 @@ use tabled_settings::width::Width;
 use tabled_steps::{Step, run};
 
 /// Does steps as `run` does, and tells those that are doubtful: all that name or change nothing or leave no text, where
-/// steps are checked, and else those of the arguments that name nothing. The steps are of lines of these numbers.
+/// steps are checked, and else those of the arguments that name nothing or leave no text. The steps are of lines of these
+/// numbers.
 pub(crate) fn run_checked<E: Write>(
     alloc: Global,
     records: &mut Vec<Vec<LentText>>,

@@ -89,9 +89,10 @@ pub fn draw_script<R: Read, W: Write>(alloc: Global, reader: &mut R, writer: &mu
 /// - a fault, as that of `line N` of the script, of `step N` of the request, or of a line of a file, with its likely cure
 ///   and its words; first rows that differ; how many columns a picture takes that can't be as narrow;
 /// - names of columns, by which a step of the request goes, that no text of the first row before it is, and those texts;
-/// - that another step of the request names no cell of the table before it, or that a word of a step is an option's name;
-/// - where steps are checked, that a step of the script does so, or goes by such names, that a step changes nothing or leaves
-///   no text, and that rows of files have not all as many texts as the first.
+/// - that another step of the request names no cell of the table before it, or leaves no text, since it has a width of 0, or
+///   that a word of a step is an option's name;
+/// - where steps are checked, the same of a step of the script, that a step changes nothing, and that rows of files have not
+///   all as many texts as the first.
 ///
 /// Of this project.
 pub fn answer<W: Write, E: Write>(

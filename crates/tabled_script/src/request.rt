@@ -37,7 +37,7 @@ pub struct Request {
     pub sources: Vec<Source>,
     /// Steps behind those of the script, each a list of its words.
     pub steps: Vec<Vec<String>>,
-    /// Whether steps of the script that name nothing are told, too, and each step that changes nothing or leaves no text, and
+    /// Whether steps of the script that name nothing or leave no text are told, too, and each step that changes nothing, and
     /// rows of another length than the first.
     pub checks_steps: bool,
 }
