@@ -31,8 +31,10 @@ class Module:
         """The way from its page to a file, named below docs/api."""
         return os.path.relpath(target, os.path.dirname(self.file()))
 
-    def parts(self):
-        return [part for _, told in self.sources for _, part in told]
+    def told(self):
+        """Each part that stands on its page, with the path and the text of its file."""
+        paths = {source.text: source.path for source, _ in self.sources}
+        return ((paths[text], text, part) for _, told in self.sources for text, part in told)
 
 
 def modules_of(sources, crate):
@@ -152,38 +154,81 @@ def page(module, modules, exports, files):
 
 
 def line_of(text, name):
-    """The line of a file where a name is declared; that of a call of a type stands below an `impl` of it."""
+    """The line of a file where a name is declared; that of a call of a type stands inside an `impl` of it."""
     owner, _, own = name.rpartition("::")
-    start = 0
-    if owner:
-        found = re.search(rf"^(?:impl|(?:pub )?trait)\b[^\n{{]*\b{owner}\b", text, re.M)
-        start = found.start() if found else 0
-    found = re.compile(rf"\b(?:fn|struct|enum|trait|mod|type|const|macro_rules!) {own}\b").search(text, start)
-    return text.count("\n", 0, found.start() if found else start) + 1
+    declared = re.compile(rf"\b(?:fn|struct|enum|trait|mod|type|const|macro_rules!) {own}\b")
+    inside = re.finditer(rf"^impl\b(?!.* for )[^\n{{]*\b{owner}\b(?:.*\n)+?}}", text, re.M) if owner else []
+    spans = [it.span() for it in inside] or [(0, len(text))]
+    found = next(filter(None, (declared.search(text, *it) for it in spans)), None)
+    return text.count("\n", 0, found.start() if found else 0) + 1
 
 
-def index(crates):
+def shapeless(words):
+    """The first sentence of some words, without the shapes of tables."""
+    return re.sub(r" \([^)]* x [^)]*\)", "", first_sentence(words))
+
+
+def said_shortly(words):
+    """What the first sentence says; of a long one what stands before its colon, without a clause that adds to it."""
+    said = shapeless(words).rstrip(".")
+    if len(said.split()) > LONG:
+        front = re.split(r"[:;] ", said, maxsplit=1)[0]
+        said = front if len(front.split()) > 2 else said
+    if len(said.split()) >= LONG:
+        front = re.sub(rf", ({ADDS})\b[^,]*$", "", said)
+        said = front if len(front.split()) > 5 else said
+    return f"{said}."
+
+
+def says_itself(name, words):
+    """Whether a name says what it is: that of an error, of an iterator over what another type names, and one that has all
+    words that say it."""
+    said = re.findall(r"[a-z]+", shapeless(words).lower())
+    parts = {it.lower().rstrip("s")[:5] for it in re.findall(r"[A-Z]?[a-z]+", name)}
+    return name.endswith(("Iter", "Error")) or all(it in SMALL or it.rstrip("s")[:5] in parts for it in said)
+
+
+def index(crates, exports):
     """docs/API.md: what is alike in all, and each public name with its line of src."""
     out = ["# Index of public names", "", BEGUN, "", *SAID_ONCE]
     for modules in crates:
-        out += ["", f"## `{modules[0].crate}`"]
-        for module in modules:
-            paths = {source.text: source.path for source, _ in module.sources}
-            told = [it for _, told in module.sources for it in told]
-            meant = [it.name for _, it in told if it.kind == "impl"]
-            if not told:
-                continue
-            out += ["", f"### `{module.path()}`", ""]
-            for text, part in told:
-                link = f"../crates/{module.crate}/src/{paths[text]}#L{line_of(text, part.name)}"
-                _, _, own = part.name.rpartition("::")
-                if part.kind == "call" and own != part.name:
-                    out[-1] += f" [`{own}`]({link})"
-                elif part.kind != "impl":
-                    out += [f"- [`{part.name}`]({link}): {first_sentence(part.words)}"]
-            if len(meant) == len(told):
-                out += [f"- `{of}`: a store, by " + ", ".join(f"`{it}`" for it in traits) for of, traits in meanings(meant)]
+        laws = [it for it in modules if it.name[-1:] == ("laws",)]
+        lines = lines_of([it for it in modules if it not in laws], exports)
+        out += ["", f"## `{modules[0].crate}`", *[""] * bool(lines), *lines]
+        for module in laws:
+            out += ["", f"### `{module.path()}`", "", ", ".join(link(module, *it, it[2].name) for it in module.told())]
     return "\n".join(out) + "\n"
+
+
+def link(module, path, text, part, shown):
+    """The link of what is shown of a name to its line of src."""
+    return f"[`{shown}`](../crates/{module.crate}/src/{path}#L{line_of(text, part.name)})"
+
+
+def path_of(module, part, exports):
+    """The path that imports a name from its crate."""
+    return exports.imports(f"{module.path()}::{part.name}")[0].removeprefix(f"use {module.crate}::").rstrip(";")
+
+
+def lines_of(modules, exports):
+    """The lines of the names of modules, with the calls of a type behind it. Names that say themselves stand in the last."""
+    plain, lines, last = [], [], None
+    for module in modules:
+        told = [*module.told()]
+        for path, text, part in told:
+            if part.kind == "call" and "::" in part.name:
+                last[-1] += " " + link(module, path, text, part, part.name.rpartition("::")[2])
+            elif part.kind != "impl":
+                name = path_of(module, part, exports)
+                is_plain = name.startswith("laws::") or says_itself(part.name, part.words)
+                shown = link(module, path, text, part, name)
+                last = plain if is_plain else lines
+                last.append(shown if is_plain else f"- {shown}: {said_shortly(part.words)}")
+        if all(part.kind == "impl" for _, _, part in told):
+            for of, traits in meanings([part.name for _, _, part in told]):
+                by = ", ".join(f"`{it}`" for it in traits)
+                lines.append(f"- `{'::'.join(module.name)}`: `{of}` is a store, by {by}.")
+    return [*lines, *["- " + ", ".join(plain)] * bool(plain)]
 
 
 def meanings(names):
@@ -195,23 +240,25 @@ def meanings(names):
     return found.items()
 
 
+LONG = 12  # words of a sentence that the index has whole
+ADDS = "as|of which|since|which|so that|0 where|row by row|found|each once|anywhere|from left to right|with its|if they"
+SMALL = {"a", "an", "the", "of", "one", "in", "to", "is", "it", "by", "its", "that"}
+
 BEGUN = """\
-Each name leads to its line of src, where its whole words and its contract stand; behind a type stand its calls.
-`docs/make --api FOLDER` writes a page for each module, with the paths to import. [README](../README.md) says what
-*refused* means."""
+Each name, with the path that imports it from its crate, leads to its line of src, where its words and its contract stand;
+behind a type stand its calls. A law's name says in short what it proves. `docs/make --api FOLDER` writes a page for each
+module."""
 
 SAID_ONCE = """\
 What is alike in all:
 
-- Each option proves `acts_like`: one that may stand for it (`is_like`; where it doesn't say, an equal one) acts like it.
-- Where a page doesn't say when an option can be used (`can_change`), an object listed (`can_list`) or a location asked
+- Each option proves `acts_like`: one that may stand for it (`is_like`; where that isn't said, an equal one) acts like it.
+- Where it isn't said when an option can be used (`can_change`), an object listed (`can_list`) or a location asked
   (`can_locate`), it always can.
-- What the pages say of tuples of 2 options holds of those of 3 to 10: first the first part, then the others in turn.
+- What is said of tuples of 2 options holds of those of 3 to 10.
 - A clause sees `x: &mut T` as `x.old` before the call and `x.new` after it, and `x: &T` as `x.now`.
 - `IfOk result f`: where the result is `Ok v`, f holds of v. `OnOk result p`: where it is `Ok`, p holds. `IfErr`,
-  `OnErr`, `IfSome` and the like, alike.
-- `Rattle.tabled_grid.specs.Grid` is the file crates/tabled_grid/specs/Grid.antt
-  ([ARCHITECTURE](ARCHITECTURE.md#words-of-contracts)).""".splitlines()
+  `OnErr`, `IfSome` and the like, alike. [Other words](ARCHITECTURE.md#words-of-contracts) stand in `specs/`.""".splitlines()
 
 
 def read(top, crates):
@@ -221,7 +268,7 @@ def read(top, crates):
 
 
 def names(top, crates):
-    return index(read(top, crates)[0])
+    return index(*read(top, crates))
 
 
 def pages(top, crates):

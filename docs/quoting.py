@@ -12,7 +12,8 @@
     answer:PATH NAME            an answer of a file of proofs/
     crates:called               a table of the crates that others call, and what each uses
     specs:CRATE FILE ..         a line of files of a crate's specs/, and what each is about
-Where a line names a file of crates/ and what does something there, as in - `NAME/src/x.rt`: `f`, `g`, these have to be there.
+Where a line names a file of crates/ and what does something there, as in - `NAME/src/x.rt`: `f`, `g`, or a page a caller, as
+in `f` and `g` of [NAME](../NAME/src/x.rt), these have to be there.
 """
 
 import re
@@ -149,8 +150,10 @@ def specs_line(top, crate, *names):
 
 
 def stop_at_missing(top, prose):
-    """Stops where a line names a file of crates/, or what does something there, that isn't there."""
-    for path, named in re.findall(r"^ *- `(\w+/src/[\w/]+\.rt)`: (.*)$", prose, re.M):
+    """Stops where a page names a file of crates/, or what does something there, that isn't there."""
+    callers = re.findall(r"((?:`\w+` and )?`\w+`) of \[\w+\]\(\.\./(\w+/src/[\w/]+\.rt)\)", prose)
+    listed = re.findall(r"^ *- `(\w+/src/[\w/]+\.rt)`: (.*)$", prose, re.M)
+    for path, named in [*listed, *((path, named) for named, path in callers)]:
         file = top / "crates" / path
         text = file.read_text() if file.is_file() else ""
         for name in re.findall(r"`(\w+)`", named):
