@@ -32,7 +32,7 @@ use Rattle.tabled_language.specs.Drafts.{Draft, asks_behind, draft_of, fault_beh
 use Rattle.tabled_language.specs.Lent.{bytes_of, texts_in_records}
 use Rattle.tabled_language.specs.Faults.{fault_of, first_fault}
 use Rattle.tabled_language.specs.LineNames.{NamedLines, is_number, is_text}
-use Rattle.tabled_language.specs.Line.{meaning_of, numbers_of, step_in}
+use Rattle.tabled_language.specs.Line.{meaning_of, numbers_of, says_words, step_in}
 use Rattle.tabled_language.specs.Memory.{GivenLine, asks_between, asks_memory, says_given, verb_asks, words_ask}
 use Rattle.tabled_language.specs.Script.{Script, parse, parse_between, script_or_fault}
 use Rattle.tabled_language.specs.Verb.{Line, says_verb}
@@ -147,6 +147,10 @@ ReadsWords old n words result new = ReadsLine old n (meaning_of (Some words)) (w
 -- what a verb says with words, in the line of a number, read into a draft, or why it isn't
 abbrev pub ReadsVerb : {X : Type 0} → Draft → ℕ → List ℕ → List (List ℕ) → Result X LineError → Draft → Type 0
 ReadsVerb old n verb words result new = ReadsLine old n (says_verb verb words) (verb_asks (takes old) verb words) result new
+
+-- words read into a draft as those of the line of a number, or why they aren't
+abbrev pub ReadsGivenWords : {X : Type 0} → Draft → ℕ → List (List ℕ) → Result X LineError → Draft → Type 0
+ReadsGivenWords old n words result new = ReadsLine old n (says_words words) (words_ask (takes old) words) result new
 
 -- code says that a line stands in its place after what was read, or that it doesn't
 abbrev pub IsPlaced : {X : Type 0} → Draft → Line → Result X LineError → Type 0

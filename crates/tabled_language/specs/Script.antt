@@ -1,5 +1,7 @@
 -- A script: its records, its merged cells and its steps, and which one bytes write.
 use Rattle.std.specs.Prelude.{ℕ, List, ◌++◌, map, Result, filter_map}
+use Rattle.std.specs.List.{AllByRecursion}
+use Rattle.std.specs.Str.{IsUtf8}
 use Rattle.tabled_grid.specs.Spans.{SpanMap, from_rectangles}
 use Rattle.tabled_language.specs.declared.fault.Fault.{Fault}
 use Rattle.tabled_language.specs.Verb.{Line, RecordLine}
@@ -7,9 +9,17 @@ use Rattle.tabled_steps.specs.States.{State}
 use Rattle.tabled_language.specs.Line.{anchor_in, ended_lines, lines_of, record_in, says_line, says_words, step_in, table_from}
 use Rattle.tabled_language.specs.Faults.{fault_among, if_faultless}
 
+-- rows of texts
+abbrev pub Records : Type 0
+Records = List (List (List ℕ))
+
+-- each text is UTF-8
+abbrev pub AreTexts : Records → Type 0
+AreTexts rows = AllByRecursion (AllByRecursion IsUtf8) rows
+
 -- the records, the merged cells and the steps of a script
 pub record Script : Type 0 where
-  pub records : List (List (List ℕ))
+  pub records : Records
   pub spans : SpanMap
   pub steps : List (State → State)
 
@@ -30,9 +40,9 @@ abbrev pub parse : List ℕ → Result Script (ℕ × Fault)
 parse input = script_or_fault (map says_line (lines_of input))
 
 -- the lines of a script between rows and words: a record for each row, the lines of bytes, and a line for each list of words
-abbrev pub lines_between : List (List (List ℕ)) → List ℕ → List (List (List ℕ)) → List Line
+abbrev pub lines_between : Records → List ℕ → Records → List Line
 lines_between rows input words = map RecordLine rows ++ (map says_line (ended_lines input) ++ map says_words words)
 
 -- the script of rows, bytes and words, or the number of its first faulty line and the fault
-abbrev pub parse_between : List (List (List ℕ)) → List ℕ → List (List (List ℕ)) → Result Script (ℕ × Fault)
+abbrev pub parse_between : Records → List ℕ → Records → Result Script (ℕ × Fault)
 parse_between rows input words = script_or_fault (lines_between rows input words)

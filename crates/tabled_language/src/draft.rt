@@ -42,10 +42,10 @@ impl<'a> Draft<'a> {
     ghost use Rattle.std.specs.List.{AllByRecursion};
     ghost use Rattle.tabled_language.specs.Drafts.{draft_of, takes};
     ghost use Rattle.tabled_language.specs.Lent.{bytes_of, texts_in_records};
-    ghost use Rattle.tabled_language.specs.Line.{has_byte, says_line, says_words, words_of};
-    ghost use Rattle.tabled_language.specs.Memory.{line_asks, span_asks, step_asks, words_ask};
+    ghost use Rattle.tabled_language.specs.Line.{has_byte, says_line, words_of};
+    ghost use Rattle.tabled_language.specs.Memory.{line_asks, span_asks, step_asks};
     ghost use Rattle.tabled_language.specs.Output.{IsOwnWord};
-    ghost use Rattle.tabled_language.specs.Parsing.{BecomesScript, IsPlaced, ReadsLine, ReadsVerb, ReadsWords, draft_in};
+    ghost use Rattle.tabled_language.specs.Parsing.{BecomesScript, IsPlaced, ReadsGivenWords, ReadsLine, ReadsVerb, ReadsWords, draft_in};
     ghost use Rattle.tabled_language.specs.Verb.{RecordLine, says_shape, says_span, says_step};
 
     /// The draft of records that are read.
@@ -114,7 +114,7 @@ impl<'a> Draft<'a> {
         number: usize,
         words: Vec<LentText<'a>>,
     ) -> Read<()>
-        ensures { ReadsLine (draft_in self.old) number (says_words (map bytes_of words.entry.items)) (words_ask (takes (draft_in self.old)) (map bytes_of words.entry.items)) result (draft_in self.new) }
+        ensures { ReadsGivenWords (draft_in self.old) number (map bytes_of words.entry.items) result (draft_in self.new) }
     {
         if make_empty_line(&words) {
             return Ok(());

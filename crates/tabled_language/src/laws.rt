@@ -6,7 +6,7 @@ ghost use Rattle.std.specs.Str.{IsUtf8};
 ghost use Rattle.tabled_language.specs.Line.{ended_lines, says_line, says_words};
 ghost use Rattle.tabled_language.specs.Origins.{origin_of, said_at};
 ghost use Rattle.tabled_language.specs.Output.{row_lines, tab_separated};
-ghost use Rattle.tabled_language.specs.Script.{lines_between, parse, parse_between};
+ghost use Rattle.tabled_language.specs.Script.{AreTexts, Records, lines_between, parse, parse_between};
 ghost use Rattle.tabled_language.specs.Verb.{EmptyLine};
 ghost use Rattle.tabled_language.specs.Bare.{bare_parse, has_either_word};
 ghost use Rattle.tabled_language.specs.RoundTrip.{IsTable, ReadsBack, ReadsRows};
@@ -30,8 +30,8 @@ pub fn bytes_alone_are_a_script()
 /// Rows before bytes mean the `row` lines that are written of them: these are the same lines, so they have the same
 /// numbers.
 pub fn rows_are_their_lines()
-    ensures lines { (rows : List (List (List ℕ))) (input : List ℕ) (words : List (List (List ℕ))) → AllByRecursion (AllByRecursion IsUtf8) rows → lines_between rows input words ≡ lines_between [] (row_lines rows ++ input) words }
-    ensures script { (rows : List (List (List ℕ))) (input : List ℕ) → AllByRecursion (AllByRecursion IsUtf8) rows → parse_between rows input [] ≡ parse (row_lines rows ++ input) }
+    ensures lines { (rows : Records) (input : List ℕ) (words : Records) → AreTexts rows → lines_between rows input words ≡ lines_between [] (row_lines rows ++ input) words }
+    ensures script { (rows : Records) (input : List ℕ) → AreTexts rows → parse_between rows input [] ≡ parse (row_lines rows ++ input) }
 {}
 
 /// Words mean what their line says.
@@ -41,15 +41,15 @@ pub fn words_are_their_line()
 
 /// Whether a newline ends the last line of bytes changes no line, nor the number of one.
 pub fn last_newlines_do_not_matter()
-    ensures { (rows : List (List (List ℕ))) (input : List ℕ) (b : ℕ) (words : List (List (List ℕ))) → b ≢ 10 → lines_between rows (input ++ b ∷ 10 ∷ []) words ≡ lines_between rows (input ++ b ∷ []) words }
+    ensures { (rows : Records) (input : List ℕ) (b : ℕ) (words : Records) → b ≢ 10 → lines_between rows (input ++ b ∷ 10 ∷ []) words ≡ lines_between rows (input ++ b ∷ []) words }
 {}
 
 /// What stands where a line comes from is what that line says.
 pub fn origins_are_where_lines_stand()
-    ensures { (rows : List (List (List ℕ))) (input : List ℕ) (words : List (List (List ℕ))) (n : ℕ) → n < length (lines_between rows input words) → said_at rows input words (origin_of (length rows) (length (ended_lines input)) (n + 1)) ≡ get_or (lines_between rows input words) n EmptyLine }
+    ensures { (rows : Records) (input : List ℕ) (words : Records) (n : ℕ) → let lines = lines_between rows input words in n < length lines → said_at rows input words (origin_of (length rows) (length (ended_lines input)) (n + 1)) ≡ get_or lines n EmptyLine }
 {}
 
 /// Records that are written as `row` lines are read as these records, padded to the longest, no merged cells and no steps.
 pub fn rows_are_read_back()
-    ensures { (rows : List (List (List ℕ))) → AllByRecursion (AllByRecursion IsUtf8) rows → ReadsRows rows }
+    ensures { (rows : Records) → AreTexts rows → ReadsRows rows }
 {}

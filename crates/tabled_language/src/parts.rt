@@ -78,7 +78,7 @@ pub(crate) fn first_place(bytes: &[u8], at: u8) -> Option<usize>
 }
 
 /// The first place of a byte, sought in parts of eight bytes, which finds a near one soonest.
-fn near_place(bytes: &[u8], at: u8) -> Option<usize>
+pub(crate) fn near_place(bytes: &[u8], at: u8) -> Option<usize>
     ensures { IsFirstPlace at bytes.now result }
 {
     // A loop of eight steps is written out by the compiler, which takes half of the time.

@@ -38,8 +38,9 @@ pub(crate) fn escaped_texts<'a>(
     ensures { IfOk result (λ texts. option_map (λ v. map bytes_of v.items) texts ≡ texts_of (words_of line.now)) }
 {
     let mut texts = Vec::with_capacity(alloc, count_parts(line, b'\t'))?;
+    let mut room = Vec::new(alloc);
     for word in Parts::new(line, b'\t') {
-        match lent_text(alloc, word)? {
+        match lent_text(alloc, word, &mut room)? {
             Some(text) => texts.push(text)?,
             None => return Ok(None),
         }

@@ -1,13 +1,13 @@
 //! The words of a line, and the texts that they stand for.
 
-ghost use Rattle.std.specs.Prelude.{◌≡◌, false, map, IfOk};
+ghost use Rattle.std.specs.Prelude.{◌≡◌, false, if◌then◌else◌, IfOk, None, Some};
 ghost use Rattle.std.specs.Option.{option_map};
-ghost use Rattle.std.specs.String.{string_bytes};
 ghost use Rattle.tabled_language.specs.Lent.{bytes_of};
 ghost use Rattle.tabled_language.specs.Line.{has_byte};
 ghost use Rattle.tabled_language.specs.Word.{escape, integer_of, length_of, number_of, number_to, text_of_word, unescaped};
 
 use crate::lent::LentText;
+use crate::parts::near_place;
 use crate::plain::PlainText;
 use std::alloc::{AllocError, Global};
 use std::str;
@@ -28,54 +28,46 @@ fn escape(letter: u8) -> Option<u8>
     }
 }
 
-/// A word with its escapes undone, or nothing where a backslash begins none.
-fn unescaped(alloc: Global, word: &[u8]) -> Result<Option<Vec<u8>>, AllocError>
-    ensures { IfOk result (λ bytes. option_map (λ v. v.items) bytes ≡ unescaped word.now) }
+/// Undoes the escapes of a word into bytes, in the place of what they were. Says whether each backslash begins one.
+fn unescape(word: &[u8], bytes: &mut Vec<u8>) -> Result<bool, AllocError>
+    ensures { IfOk result (λ is_word. (if is_word then Some bytes.new.items else None) ≡ unescaped word.now) }
 {
-    let mut bytes = Vec::with_capacity(alloc, word.len())?;
-    let mut behind_backslash = false;
-    for byte in word {
-        if behind_backslash {
-            let Some(escaped) = escape(*byte) else {
-                return Ok(None);
-            };
-            bytes.push(escaped)?;
-            behind_backslash = false;
-        } else if *byte == b'\\' {
-            behind_backslash = true;
-        } else {
-            bytes.push(*byte)?;
-        }
+    bytes.clear();
+    let mut rest = word;
+    while let Some(place) = near_place(rest, b'\\') {
+        let (plain, behind) = rest.split_at(place);
+        let [_, letter, others @ ..] = behind else {
+            return Ok(false);
+        };
+        let Some(escaped) = escape(*letter) else {
+            return Ok(false);
+        };
+        bytes.extend_from_slice(plain)?;
+        bytes.push(escaped)?;
+        rest = others;
     }
-    if behind_backslash {
-        return Ok(None);
-    }
-    Ok(Some(bytes))
+    bytes.extend_from_slice(rest)?;
+    Ok(true)
 }
 
-/// The text of a word, or nothing where it has a bad escape or isn't UTF-8.
-fn text_of_word(alloc: Global, word: &[u8]) -> Result<Option<String>, AllocError>
-    ensures { IfOk result (λ text. option_map string_bytes text ≡ text_of_word word.now) }
-{
-    let Some(bytes) = unescaped(alloc, word)? else {
-        return Ok(None);
-    };
-    Ok(String::from_utf8(bytes).ok())
-}
-
-/// The text of a word, lent where it has no escape.
+/// The text of a word, or nothing where it has a bad escape or isn't UTF-8. It is lent where it has no escape; else its bytes
+/// are put together in room that texts share.
 pub(crate) fn lent_text<'a>(
     alloc: Global,
     word: &'a [u8],
+    room: &mut Vec<u8>,
 ) -> Result<Option<LentText<'a>>, AllocError>
     requires { (has_byte 9 word.now ≡ false) × (has_byte 10 word.now ≡ false) }
     ensures { IfOk result (λ text. option_map bytes_of text ≡ text_of_word word.now) }
 {
     if word.contains(&b'\\') {
-        let Some(text) = text_of_word(alloc, word)? else {
+        if !unescape(word, room)? {
             return Ok(None);
+        }
+        return match str::from_utf8(room) {
+            Ok(text) => Ok(Some(LentText::from_text(alloc, text)?)),
+            Err(_) => Ok(None),
         };
-        return Ok(Some(LentText::from_string(alloc, text)?));
     }
     match str::from_utf8(word) {
         Ok(text) => Ok(Some(LentText::Lent(PlainText::new(text)))),

@@ -1,6 +1,6 @@
 -- Two tables joined: growth, texts, and the way back.
 use Rattle.std.proofs.lemmas.Grind.{common_steps}
-use Rattle.tabled_settings.proofs.Common.{[], ◌&&◌, ◌+◌, ◌-◌, ◌<◌, ◌∙◌, ◌≡◌, ◌≢◌, ◌≤◌, ◌⊎◌, AddsColumns, AddsRows, Bool, Columns, FillsTo, Grid, GrowsTo, HasBlank, IfSome, IsEmptyWithoutRows, IsEven, IsEven-first, IsEven-with_cell, IsInside, JoinsAt, KeepsPlaces, List, None, Option, Position, Rows, Some, WritesText, added_blank, added_even, added_kept, ap, ap₂, arith, cases_lt, cell_at, cell_at-map_grid, cell_at-map_grid_some, cell_at-with_cell_other, cell_at-with_cell_same, cond, either_way, eqb, eqb-true, false, first_along, if◌then◌else◌, inl, inr, joined_places, le-leb, lt-ltb, ltb-true, map_grid, max, nat_lt, none-some, option_map, place, refl, same_Some, sym, text_put, true, unwrap_or, ℕ}
+use Rattle.tabled_settings.proofs.Common.{[], ◌&&◌, ◌+◌, ◌-◌, ◌<◌, ◌∙◌, ◌≡◌, ◌≢◌, ◌≤◌, ◌⊎◌, AddsColumns, AddsRows, Bool, Columns, FillsTo, Grid, GrowsTo, HasBlank, IfSome, IsEmptyWithoutRows, IsEven, IsEven-first, IsEven-with_cell, IsInside, JoinsAt, KeepsPlaces, List, None, Option, Position, Rows, Size, Some, WritesText, added_blank, added_even, added_kept, ap, ap₂, arith, cases_lt, cell_at, cell_at-map_grid, cell_at-map_grid_some, cell_at-with_cell_other, cell_at-with_cell_same, cond, either_way, eqb, eqb-true, false, first_along, if◌then◌else◌, inl, inr, joined_places, le-leb, lt-ltb, ltb-true, map_grid, max, nat_lt, none-some, option_map, place, refl, same_Some, sym, text_put, true, unwrap_or, ℕ}
 use Rattle.tabled_grid.proofs.Squares.{wide_enough}
 use Rattle.tabled_grid.proofs.Order.{before_or_at}
 use Rattle.tabled_grid.specs.Order.{IsBefore}
@@ -20,8 +20,8 @@ pub joined_keeps : {A : Type 0} (corner : Position) (second : Grid A) (rows colu
 joined_keeps corner second rows columns = grind (arith, common_steps, lt-ltb, place_of)
 
 module _ {A : Type 0} (is_blank : A → Type 0) where
-  pub grown_to : (rows columns many more : ℕ) (old grown new : Grid A) → IsEven old → old.rows + many ≡ rows → old.columns + more ≡ columns → (rows ≡ 0 → columns ≡ 0) → AddsRows is_blank many old grown → AddsColumns is_blank more grown new → GrowsTo is_blank rows columns old new
-  grown_to rows columns many more old grown new even tall wide none r c = record {
+  pub grown_to : (size : Size) (many more : ℕ) (old grown new : Grid A) → IsEven old → old.rows + many ≡ size.height → old.columns + more ≡ size.width → (size.height ≡ 0 → size.width ≡ 0) → AddsRows is_blank many old grown → AddsColumns is_blank more grown new → GrowsTo is_blank size old new
+  grown_to size many more old grown new even tall wide none r c = record {
     even = added_even is_blank more grown new grown_even Columns c;
     rows_are = c.rows ∙ high;
     columns_are = columns_are;
@@ -32,19 +32,19 @@ module _ {A : Type 0} (is_blank : A → Type 0) where
       grown_even : IsEven grown
       grown_even = added_even is_blank many old grown even Rows r
 
-      high : grown.rows ≡ rows
+      high : grown.rows ≡ size.height
       high = ap (λ (h : Grid A). h.rows) r.is ∙ tall
 
       broad : grown.columns ≡ old.columns
       broad = ap (λ (h : Grid A). h.columns) r.is
 
-      columns_are : new.columns ≡ columns
-      columns_are = c.columns ∙ wide_enough (eqb grown.rows 0) grown.columns more columns (λ is. let no_rows = eqb-true grown.rows 0 is in let no_columns = none (sym high ∙ no_rows) in omega (arith, no_columns, broad, wide)) (omega (arith, broad, wide))
+      columns_are : new.columns ≡ size.width
+      columns_are = c.columns ∙ wide_enough (eqb grown.rows 0) grown.columns more size.width (λ is. let no_rows = eqb-true grown.rows 0 is in let no_columns = none (sym high ∙ no_rows) in omega (arith, no_columns, broad, wide)) (omega (arith, broad, wide))
 
       beside : (a b : ℕ) → a < grown.rows → b < grown.columns → cell_at new (place a b) ≡ cell_at grown (place a b)
       beside a b h k = added_kept is_blank more grown new grown_even Columns b a c k h
 
-      blank : (a b : ℕ) → a < grown.rows → b < columns → (b < old.columns) ⊎ (old.columns ≤ b) → (old.rows ≤ a) ⊎ (old.columns ≤ b) → HasBlank is_blank new (place a b)
+      blank : (a b : ℕ) → a < grown.rows → b < size.width → (b < old.columns) ⊎ (old.columns ≤ b) → (old.rows ≤ a) ⊎ (old.columns ≤ b) → HasBlank is_blank new (place a b)
       blank a b h k (inr right) outside = added_blank is_blank more grown new grown_even Columns b a c (omega (arith, right, broad)) (omega (arith, k, broad, wide)) h
       blank a b h k (inl left) (inr right) = absurd (omega (arith, left, right))
       blank a b h k (inl left) (inl low) =
@@ -103,11 +103,11 @@ module _ {A : Type 0} (text_of : A → List ℕ) (want : ℕ → ℕ → Option 
             let inside : IsInside now (place i j) = record { row = row; col = col } in
             cell_at-map_grid_some text_of new (place i j) w.cell (ap (λ (g : Grid A). cell_at g (place i j)) w.is ∙ cell_at-with_cell_same now (place i j) w.cell f.even inside) ∙ ap Some w.has ∙ sym wants
 
-module _ {A : Type 0} (is_blank : A → Type 0) (text_of : A → List ℕ) (corner : Position) (second : Grid (List ℕ)) (default : List ℕ) (rows columns new_rows new_columns : ℕ) (old grown new : Grid A) (rows_are : rows ≡ old.rows) (columns_are : columns ≡ old.columns) where
+module _ {A : Type 0} (is_blank : A → Type 0) (text_of : A → List ℕ) (corner : Position) (second : Grid (List ℕ)) (default : List ℕ) (rows columns : ℕ) (size : Size) (old grown new : Grid A) (rows_are : rows ≡ old.rows) (columns_are : columns ≡ old.columns) where
   stays : (a b : ℕ) → (a < old.rows → b < old.columns → cell_at new (place a b) ≡ cell_at old (place a b)) → IfSome (cond (nat_lt a old.rows && nat_lt b old.columns) (Some (place a b)) None) (λ (q : Position). cell_at new (place a b) ≡ cell_at old q)
   stays a b same = grind (arith, common_steps, ltb-true)
 
-  pub join_done : (i : ℕ) → ((cell : A) → is_blank cell → text_of cell ≡ []) → new_rows ≡ max old.rows (corner.row + second.rows) → new_columns ≡ max old.columns (corner.col + second.columns) → i ≡ grown.rows → GrowsTo is_blank new_rows new_columns old grown → FillsTo text_of (text_put corner second default) rows columns i 0 grown new → JoinsAt is_blank text_of corner second default old new
+  pub join_done : (i : ℕ) → ((cell : A) → is_blank cell → text_of cell ≡ []) → size.height ≡ max old.rows (corner.row + second.rows) → size.width ≡ max old.columns (corner.col + second.columns) → i ≡ grown.rows → GrowsTo is_blank size old grown → FillsTo text_of (text_put corner second default) rows columns i 0 grown new → JoinsAt is_blank text_of corner second default old new
   join_done i empty tall wide all g f = record {
     first = record {
       even = f.even;
@@ -131,7 +131,7 @@ module _ {A : Type 0} (is_blank : A → Type 0) (text_of : A → List ℕ) (corn
       text a b h k outside (Some t) some = f.done a b k (rw (← rows_are, ← columns_are) at outside) (inl (omega (arith, h, f.rows_are, all))) t some
 
   -- the new lines taken away again
-  pub join_undone : (i j : ℕ) (want : ℕ → ℕ → Option (List ℕ)) (narrow short : Grid A) → IsEven old → IsEmptyWithoutRows old → old.rows ≤ new_rows → old.columns ≤ new_columns → GrowsTo is_blank new_rows new_columns old grown → FillsTo text_of want rows columns i j grown new →
+  pub join_undone : (i j : ℕ) (want : ℕ → ℕ → Option (List ℕ)) (narrow short : Grid A) → IsEven old → IsEmptyWithoutRows old → old.rows ≤ size.height → old.columns ≤ size.width → GrowsTo is_blank size old grown → FillsTo text_of want rows columns i j grown new →
       narrow ≡ first_along Columns columns new → short ≡ first_along Rows rows narrow → short ≡ old
   join_undone i j want narrow short even none taller wider g f cut_columns cut_rows =
       let narrow_even : IsEven narrow = rw cut_columns (IsEven-first Columns columns new (omega (arith, wider, columns_are, f.columns_are, g.columns_are)) f.even) in

@@ -5,7 +5,7 @@ use Rattle.tabled_grid.specs.Along.{count_along}
 use Rattle.tabled_grid.specs.Grid.{Grid}
 use Rattle.tabled_grid.specs.Places.{IsShapedAs}
 use Rattle.tabled_grid.specs.declared.records.axis.Axis.{Axis}
-use Rattle.tabled_settings.specs.Lines.{line_cells}
+use Rattle.tabled_settings.specs.Lines.{KeepsLines, line_cells}
 
 -- indexes below n, each once
 pub record AreDistinct (indexes : List ℕ) (n : ℕ) : Type 0 where
@@ -27,6 +27,10 @@ pub record BringToFront (indexes swaps : List ℕ) (n : ℕ) : Type 0 where
   pub many : length swaps ≡ length indexes
   pub forward : SwapForward swaps n
   pub front : (k : ℕ) → k < length indexes → slice_index_or (after_swaps swaps (length indexes) (range_with_len 0 n)) k 0 ≡ slice_index_or indexes k 0
+
+-- the lines that swaps bring to the front are kept, and no others
+abbrev pub KeepsFront : {A : Type 0} → Axis → List ℕ → Grid A → Grid A → Type 0
+KeepsFront axis swaps old new = (indexes : List ℕ) → BringToFront indexes swaps (count_along axis old) → KeepsLines axis indexes old new
 
 -- of each index below n it is told where it stands among some; of those that aren't there, no place of these
 pub record TellsPlaces (indexes places : List ℕ) (n : ℕ) : Type 0 where

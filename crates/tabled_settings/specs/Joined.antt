@@ -6,6 +6,7 @@ use Rattle.tabled_grid.specs.Entity.{place}
 use Rattle.tabled_grid.specs.Grid.{Grid, IsEven, cell_at, map_grid}
 use Rattle.tabled_grid.specs.Order.{IsBefore}
 use Rattle.tabled_grid.specs.declared.config.position.Position.{Position}
+use Rattle.tabled_grid.specs.declared.config.size.Size.{Size}
 use Rattle.tabled_grid.specs.declared.records.axis.Axis.{Axis}
 use Rattle.tabled_grid.specs.declared.records.axis.Axis.TheVariants.{Rows, Columns}
 use Rattle.tabled_grid.specs.Places.{Places, ReadsThrough}
@@ -57,10 +58,10 @@ abbrev pub JoinsTables : {A : Type 0} → (A → Type 0) → (A → List ℕ) �
 JoinsTables is_blank text_of axis second default old cfg new new_cfg = JoinsAt is_blank text_of (corner_of axis old.rows old.columns) second default old new × (new_cfg ≡ spans_of_join axis second old.rows old.columns cfg)
 
 -- a grid of a larger shape, with the old cells where they were and blanks elsewhere
-pub record GrowsTo {A : Type 0} (is_blank : A → Type 0) (rows columns : ℕ) (old new : Grid A) : Type 0 where
+pub record GrowsTo {A : Type 0} (is_blank : A → Type 0) (size : Size) (old new : Grid A) : Type 0 where
   pub even : IsEven new
-  pub rows_are : new.rows ≡ rows
-  pub columns_are : new.columns ≡ columns
+  pub rows_are : new.rows ≡ size.height
+  pub columns_are : new.columns ≡ size.width
   pub kept : (a b : ℕ) → a < old.rows → b < old.columns → cell_at new (place a b) ≡ cell_at old (place a b)
   pub blanks : (a b : ℕ) → a < new.rows → b < new.columns → (old.rows ≤ a) ⊎ (old.columns ≤ b) → HasBlank is_blank new (place a b)
 
@@ -75,22 +76,21 @@ pub record FillsTo {A : Type 0} (text_of : A → List ℕ) (want : ℕ → ℕ �
 
 -- a second table that is joined: the shape of the first one, where the second begins, its texts, and the text for cells that the first lacks
 pub record Joint : Type 0 where
-  pub rows : ℕ
-  pub columns : ℕ
+  pub size : Size
   pub corner : Position
   pub second : Grid (List ℕ)
   pub default : List ℕ
 
--- a second table that is joined below a first one of r rows and c columns, or right of it
-abbrev pub joint : Axis → ℕ → ℕ → Grid (List ℕ) → List ℕ → Joint
-joint axis rows columns second default = record { rows = rows; columns = columns; corner = corner_of axis rows columns; second = second; default = default }
+-- a second table that is joined below a first one of a shape, or right of it
+abbrev pub joint : Axis → Size → Grid (List ℕ) → List ℕ → Joint
+joint axis size second default = record { size = size; corner = corner_of axis size.height size.width; second = second; default = default }
 
 -- it begins in the first table or beside it, and a shape has room for both
-pub record HasRoom (rows columns : ℕ) (corner : Position) (second_rows second_columns new_rows new_columns : ℕ) : Type 0 where
-  pub row : corner.row ≤ rows
-  pub col : corner.col ≤ columns
-  pub tall : new_rows ≡ max rows (corner.row + second_rows)
-  pub wide : new_columns ≡ max columns (corner.col + second_columns)
+pub record HasRoom {A : Type 0} (size : Size) (corner : Position) (second : Grid A) (new_size : Size) : Type 0 where
+  pub row : corner.row ≤ size.height
+  pub col : corner.col ≤ size.width
+  pub tall : new_size.height ≡ max size.height (corner.row + second.rows)
+  pub wide : new_size.width ≡ max size.width (corner.col + second.columns)
 
 -- the text that it puts at a place
 abbrev pub text_of_joint : Joint → ℕ → ℕ → Option (List ℕ)
@@ -98,7 +98,7 @@ text_of_joint j = text_put j.corner j.second j.default
 
 -- the texts that it puts at places outside of the first table stand there, and the others are as they were
 abbrev pub Fills : {A : Type 0} → (A → List ℕ) → Joint → Grid A → Grid A → Type 0
-Fills text_of j old new = FillsTo text_of (text_of_joint j) j.rows j.columns old.rows 0 old new
+Fills text_of j old new = FillsTo text_of (text_of_joint j) j.size.height j.size.width old.rows 0 old new
 
 -- it is joined
 abbrev pub Joins : {A : Type 0} → (A → Type 0) → (A → List ℕ) → Joint → Grid A → Grid A → Type 0

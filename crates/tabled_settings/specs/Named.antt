@@ -59,6 +59,10 @@ text_passes (test.Compares how number) text = are_in_order how (decimal text) (d
 abbrev pub row_passes : (List ℕ → Bool) → List ℕ → Grid (List ℕ) → ℕ → Bool
 row_passes passes columns g i = list_any (λ (j : ℕ). passes (text_at g (place i j))) columns
 
+-- the rows below the first that have a text that passes a test, in one of some columns
+abbrev pub rows_passing : (List ℕ → Bool) → List ℕ → Grid (List ℕ) → List ℕ
+rows_passing passes columns g = filter (row_passes passes columns g) (range_with_len 1 (g.rows - 1))
+
 -- the columns that a name names, in a table of texts
 abbrev pub columns_named : Grid (List ℕ) → ColumnName → List ℕ
 columns_named g (column.At index) = counted index g.columns
@@ -69,9 +73,9 @@ columns_named g (column.Text name) = columns_with (string_bytes name) g
 abbrev pub first_with : List ℕ → Grid (List ℕ) → List ℕ
 first_with name g = take 1 (columns_with name g)
 
--- the rows below the first that have a text that passes a test, in the first column of a name
+-- such rows, by the first column of a name
 abbrev pub rows_where : List ℕ → (List ℕ → Bool) → Grid (List ℕ) → List ℕ
-rows_where name passes g = filter (row_passes passes (first_with name g) g) (range_with_len 1 (g.rows - 1))
+rows_where name passes g = rows_passing passes (first_with name g) g
 
 -- the rows that a name names
 abbrev pub rows_named : Grid (List ℕ) → RowName → List ℕ

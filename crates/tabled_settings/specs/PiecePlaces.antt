@@ -11,11 +11,12 @@ use Rattle.tabled_grid.specs.Spans.{SpanMap, sized}
 use Rattle.tabled_grid.specs.declared.config.position.Position.{Position}
 use Rattle.tabled_grid.specs.declared.records.axis.Axis.{Axis}
 use Rattle.tabled_grid.specs.declared.records.piece_order.PieceOrder.{PieceOrder}
+use Rattle.tabled_grid.specs.declared.records.pieces.LinePieces.{LinePieces}
 use Rattle.tabled_options.specs.Does.{Change}
 use Rattle.tabled_settings.specs.declared.split.Display.{Display}
 use Rattle.tabled_settings.specs.declared.split.Display.TheVariants.{Clean, Retain}
 use Rattle.tabled_settings.specs.declared.split.Split.{Split}
-use Rattle.tabled_settings.specs.Pieces.{has_pieces, is_text, split, staying, oriented}
+use Rattle.tabled_settings.specs.Pieces.{clean_split, has_pieces, is_text, split, staying, oriented}
 use Rattle.tabled_settings.specs.Rearranged.{carried_if}
 
 -- each place keeps its cell
@@ -37,6 +38,10 @@ shown_lines Clean axis kept places = thinned axis kept places
 -- the numbers of the pieces of rows that stay, in order
 abbrev pub staying_pieces : Split → Grid (List ℕ) → List ℕ
 staying_pieces s g = staying s (div_ceil g.columns s.index) g.cells
+
+-- the pieces of lines that a clean split keeps
+abbrev pub clean_pieces : LinePieces → Grid (List ℕ) → List ℕ
+clean_pieces pieces g = staying_pieces (clean_split pieces) (oriented pieces.axis g)
 
 -- where the cells of the pieces that stay come from, in a grid of these texts
 abbrev pub split_places : Split → Grid (List ℕ) → Places

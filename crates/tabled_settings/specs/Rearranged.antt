@@ -94,6 +94,10 @@ left_over gone n = filter (λ (i : ℕ). not (gone i)) (range_with_len 0 n)
 abbrev pub kept_lines : Axis → List ℕ → ℕ → ℕ → Places
 kept_lines axis kept rows columns = lines_from axis (λ (i : ℕ). slice_index_or kept i 0) (count_of axis (length kept) rows) (count_of axis (columns_if (length kept) columns) (length kept))
 
+-- these lines alone are kept, and the merged cells are carried along
+abbrev pub RearrangesLines : {A : Type 0} → Axis → List ℕ → Change A SpanMap
+RearrangesLines axis kept old = Rearranges (kept_lines axis kept old.rows old.columns) old
+
 -- the rows, or the columns, whose indexes are not among some
 abbrev pub removed : Axis → List ℕ → ℕ → ℕ → Places
 removed axis found rows columns = kept_lines axis (left_over (is_located found) (count_of axis rows columns)) rows columns

@@ -1,6 +1,7 @@
 -- Rows in the order of their texts in a column.
-use Rattle.std.specs.Prelude.{◌≡◌, ℕ, Bool, if◌then◌else◌, List, None, Option, Some}
+use Rattle.std.specs.Prelude.{◌≡◌, ℕ, Bool, if◌then◌else◌, List, None, Option, Some, map}
 use Rattle.std.proofs.Common.{subst, sym}
+use Rattle.std.specs.Borrow.{Bor}
 use Rattle.std.specs.Cmp.Lexicographic.{slice_cmp}
 use Rattle.std.specs.List.{position_or_len, range_with_len}
 use Rattle.std.specs.Ordering.{nat_cmp}
@@ -16,6 +17,7 @@ use Rattle.tabled_grid.specs.declared.records.axis.Axis.TheVariants.{Rows}
 use Rattle.tabled_options.specs.Does.{Change, Same, TableActsLike}
 use Rattle.tabled_select.specs.Locators.{text_at, text_is}
 use Rattle.tabled_settings.specs.InOrder.{sorted_from}
+use Rattle.tabled_settings.specs.Keys.{lent_text}
 use Rattle.tabled_settings.specs.Rearranged.{Rearranges, kept_lines}
 use Rattle.tabled_settings.specs.declared.sort.Sort.{Sort}
 use Rattle.tabled_settings.specs.declared.sort.SortColumn.{SortColumn}
@@ -39,6 +41,10 @@ abbrev pub text_order : SortKeys → Bool → List ℕ → List ℕ → Ordering
 text_order keys.Texts descending a b = directed descending (slice_cmp nat_cmp) a b
 text_order keys.Numbers descending a b = numbers_first (directed descending number_cmp) (decimal a) (decimal b)
 
+-- the order of texts at two indexes
+abbrev pub order_at : SortKeys → Bool → List (Bor (List ℕ)) → ℕ → ℕ → Ordering
+order_at keys descending texts i j = text_order keys descending (lent_text texts i) (lent_text texts j)
+
 -- the first column with a text in the first row; where none has it, the index past the columns, at which there is no text
 abbrev pub first_named : List ℕ → Grid (List ℕ) → ℕ
 first_named name g = position_or_len (λ (j : ℕ). text_is name g (place 0 j)) (range_with_len 0 g.columns)
@@ -47,6 +53,10 @@ first_named name g = position_or_len (λ (j : ℕ). text_is name g (place 0 j)) 
 abbrev pub sort_column : SortColumn → Grid (List ℕ) → ℕ
 sort_column (column.Index j) g = j
 sort_column (column.Name name) g = first_named (string_bytes name) g
+
+-- the texts of a column, row by row
+abbrev pub column_texts : Grid (List ℕ) → ℕ → List (List ℕ)
+column_texts g j = map (λ (i : ℕ). text_at g (place i j)) (range_with_len 0 g.rows)
 
 -- the order of rows by their texts in a column, of which a row or a column that isn't there has an empty one
 abbrev pub row_order : (List ℕ → List ℕ → Ordering) → Grid (List ℕ) → ℕ → ℕ → ℕ → Ordering

@@ -5,7 +5,7 @@ ghost use Rattle.std.specs.List.{range_with_len};
 ghost use Rattle.tabled_grid.specs.Along.{count_along};
 ghost use Rattle.tabled_grid.specs.Axis.{count_of};
 ghost use Rattle.tabled_settings.specs.Arranged.{AreDistinct, BringToFront, TellsPlaces};
-ghost use Rattle.tabled_settings.specs.Rearranged.{Rearranges, kept_lines};
+ghost use Rattle.tabled_settings.specs.Rearranged.{RearrangesLines, kept_lines};
 
 use crate::lines;
 use std::alloc::{AllocError, Global};
@@ -28,7 +28,7 @@ where
     requires well { R.is_well_formed records.old }
     requires once { AreDistinct indexes.items (count_along axis (R.grid records.old)) }
     ensures well { R.is_well_formed records.new }
-    ensures ok { OnOk result (Rearranges (kept_lines axis indexes.items (R.grid records.old).rows (R.grid records.old).columns) (R.grid records.old) cfg.old (R.grid records.new) cfg.new) }
+    ensures ok { OnOk result (RearrangesLines axis indexes.items (R.grid records.old) cfg.old (R.grid records.new) cfg.new) }
     ensures err { OnErr result (R.grid records.new ≡ R.grid records.old) }
     ensures same { OnErr result (cfg.new ≡ cfg.old) }
 {

@@ -111,8 +111,7 @@ where
     ) -> Result<(), AllocError> {
         let table = shape_of(records);
         let second = self.second.get_records();
-        let Size { height, width } = table;
-        let joint = Joint::of(self.axis, height, width, second, self.default.as_str())?;
+        let joint = Joint::of(self.axis, table, second, self.default.as_str())?;
         let fitting = FittingSpans::of(alloc, cfg, table)?;
         joint.join(alloc, records)?;
         fitting.stay(cfg);
@@ -126,31 +125,28 @@ where
     ghost acts_like = { Prim.search rules };
 }
 
-/// Where a second table begins: below a first one of r rows and c columns, or right of it.
-fn corner_of(axis: Axis, rows: usize, columns: usize) -> Position
-    ensures place { result ≡ corner_of axis rows columns }
-    ensures row { result.row ≤ rows }
-    ensures col { result.col ≤ columns }
+/// Where a second table begins: below a first one of a shape, or right of it.
+fn corner_of(axis: Axis, size: Size) -> Position
+    ensures place { result ≡ corner_of axis size.height size.width }
+    ensures row { result.row ≤ size.height }
+    ensures col { result.col ≤ size.width }
 {
     match axis {
-        Axis::Rows => Position::new(rows, 0),
-        Axis::Columns => Position::new(0, columns),
+        Axis::Rows => Position::new(size.height, 0),
+        Axis::Columns => Position::new(0, size.width),
     }
 }
 
-/// A second table that is joined to a first one of r rows and c columns. A contract sees it as that shape, where
+/// A second table that is joined to a first one. A contract sees it as the first one's shape, where
 /// the second table begins, its texts and the text for cells that the first table lacks.
 #[derive(Drop)]
 struct Joint<'a> {
-    rows: usize,
-    columns: usize,
+    size: Size,
     corner: Position,
     second: &'a VecRecords<Text<String>>,
     default: &'a str,
-    /// The rows of both together.
-    new_rows: usize,
-    /// The columns of both together.
-    new_columns: usize,
+    /// The shape of both together.
+    new_size: Size,
 }
 
 impl<'a> Model for Joint<'a> {
@@ -158,9 +154,9 @@ impl<'a> Model for Joint<'a> {
 
     ghost Value = { Joint };
 
-    ghost view = { λ j. record { rows = j.rows; columns = j.columns; corner = j.corner; second = as_texts j.second.now.grid; default = j.default.now } };
+    ghost view = { λ j. record { size = j.size; corner = j.corner; second = as_texts j.second.now.grid; default = j.default.now } };
 
-    ghost invariant = { λ j. let second = j.second.now.grid in HasRoom j.rows j.columns j.corner second.rows second.columns j.new_rows j.new_columns };
+    ghost invariant = { λ j. HasRoom j.size j.corner j.second.now.grid j.new_size };
 }
 
 impl<'a> Joint<'a> {
@@ -172,14 +168,13 @@ impl<'a> Joint<'a> {
     /// than there are indexes.
     fn of(
         axis: Axis,
-        rows: usize,
-        columns: usize,
+        size: Size,
         second: &'a VecRecords<Text<String>>,
         default: &'a str,
     ) -> Result<Self, AllocError>
-        ensures { IfOk result (λ j. j ≡ joint axis rows columns (as_texts second.now.grid) default.now) }
+        ensures { IfOk result (λ j. j ≡ joint axis size (as_texts second.now.grid) default.now) }
     {
-        let corner = corner_of(axis, rows, columns);
+        let corner = corner_of(axis, size);
         let bottom = corner
             .row
             .checked_add(second.count_rows())
@@ -189,13 +184,14 @@ impl<'a> Joint<'a> {
             .checked_add(second.count_columns())
             .ok_or(AllocError)?;
         Ok(Joint {
-            rows,
-            columns,
+            size,
             corner,
             second,
             default,
-            new_rows: rows.max(bottom),
-            new_columns: columns.max(right),
+            new_size: Size {
+                height: size.height.max(bottom),
+                width: size.width.max(right),
+            },
         })
     }
 
@@ -205,16 +201,16 @@ impl<'a> Joint<'a> {
         R: Records + ExactRecords + Resizable + RecordsMut<String>,
         R::Cell: CellText,
         requires well { R.is_well_formed records.old }
-        requires rows { self.now.rows ≡ (R.grid records.old).rows }
-        requires columns { self.now.columns ≡ (R.grid records.old).columns }
+        requires rows { self.now.size.height ≡ (R.grid records.old).rows }
+        requires columns { self.now.size.width ≡ (R.grid records.old).columns }
         ensures well { R.is_well_formed records.new }
         ensures ok { OnOk result (Joins R.Cell.is_blank R.Cell.text_of self.now (R.grid records.old) (R.grid records.new)) }
         ensures err { OnErr result (R.grid records.new ≡ R.grid records.old) }
     {
-        grow(alloc, records, self.new_rows, self.new_columns)?;
+        grow(alloc, records, self.new_size)?;
         if let Err(error) = self.fill(alloc, records) {
-            records.truncate_columns(self.columns);
-            records.truncate_rows(self.rows);
+            records.truncate_columns(self.size.width);
+            records.truncate_rows(self.size.height);
             return Err(error);
         }
         Ok(())
@@ -226,14 +222,18 @@ impl<'a> Joint<'a> {
         R: Records + ExactRecords + RecordsMut<String>,
         R::Cell: CellText,
         requires well { R.is_well_formed records.old }
-        requires wide { self.now.columns ≤ (R.grid records.old).columns }
+        requires wide { self.now.size.width ≤ (R.grid records.old).columns }
         ensures well { R.is_well_formed records.new }
-        ensures kept { let j = self.now in FillsTo R.Cell.text_of (text_of_joint j) j.rows j.columns 0 0 (R.grid records.old) (R.grid records.new) }
+        ensures kept { let j = self.now in FillsTo R.Cell.text_of (text_of_joint j) j.size.height j.size.width 0 0 (R.grid records.old) (R.grid records.new) }
         ensures ok { OnOk result (Fills R.Cell.text_of self.now (R.grid records.old) (R.grid records.new)) }
     {
         let count = records.count_columns();
         for i in 0..records.count_rows() {
-            let start = if i < self.rows { self.columns } else { 0 };
+            let start = if i < self.size.height {
+                self.size.width
+            } else {
+                0
+            };
             for j in start..count {
                 if let Some(text) = self.text_at(i, j) {
                     records.set(
@@ -266,23 +266,22 @@ impl<'a> Joint<'a> {
 }
 
 /// Grows a store to a shape that is no smaller. Refused, it leaves the store as it was.
-fn grow<R>(alloc: Global, records: &mut R, rows: usize, columns: usize) -> Result<(), AllocError>
+fn grow<R>(alloc: Global, records: &mut R, size: Size) -> Result<(), AllocError>
 where
     R: Records + ExactRecords + Resizable,
     R::Cell: CellText,
     requires well { R.is_well_formed records.old }
-    requires taller { (R.grid records.old).rows ≤ rows }
-    requires wider { (R.grid records.old).columns ≤ columns }
-    requires rowless { rows ≡ 0 → columns ≡ 0 }
+    requires taller { (R.grid records.old).rows ≤ size.height }
+    requires wider { (R.grid records.old).columns ≤ size.width }
+    requires rowless { size.height ≡ 0 → size.width ≡ 0 }
     ensures well { R.is_well_formed records.new }
-    ensures ok { OnOk result (GrowsTo R.Cell.is_blank rows columns (R.grid records.old) (R.grid records.new)) }
+    ensures ok { OnOk result (GrowsTo R.Cell.is_blank size (R.grid records.old) (R.grid records.new)) }
     ensures err { OnErr result (R.grid records.new ≡ R.grid records.old) }
 {
-    let old_rows = records.count_rows();
-    let old_columns = records.count_columns();
-    records.push_rows(alloc, rows - old_rows)?;
-    if let Err(error) = records.push_columns(alloc, columns - old_columns) {
-        records.truncate_rows(old_rows);
+    let old = shape_of(records);
+    records.push_rows(alloc, size.height - old.height)?;
+    if let Err(error) = records.push_columns(alloc, size.width - old.width) {
+        records.truncate_rows(old.height);
         return Err(error);
     }
     Ok(())

@@ -1,11 +1,11 @@
 //! Rows and columns by names, of one behind another.
 
 ghost use Rattle.std.specs.Prelude.{◌≡◌, ◌<◌, ◌≤◌, ◌++◌, ◌-◌, ℕ, IfOk, List, OnOk};
-ghost use Rattle.std.specs.List.{All, filter, range_with_len};
+ghost use Rattle.std.specs.List.{All};
 ghost use Rattle.std.specs.String.{string_bytes};
 ghost use Rattle.tabled_grid.specs.Grid.{map_grid};
 ghost use Rattle.tabled_select.specs.Locators.{columns_with};
-ghost use Rattle.tabled_settings.specs.Named.{all_columns_named, all_rows_named, columns_named, counted, cut_index, row_passes, rows_named, sliced, text_passes};
+ghost use Rattle.tabled_settings.specs.Named.{all_columns_named, all_rows_named, columns_named, counted, cut_index, row_passes, rows_named, rows_passing, sliced, text_passes};
 
 use crate::text_test::TextTest;
 use std::alloc::{AllocError, Global};
@@ -311,7 +311,7 @@ where
     R::Cell: CellText,
     requires well { R.is_well_formed records.now }
     requires inside { All (λ (j : ℕ). j < (R.grid records.now).columns) columns.now }
-    ensures { OnOk result (found.new.items ≡ found.old.items ++ filter (row_passes (text_passes test.now) columns.now (map_grid R.Cell.text_of (R.grid records.now))) (range_with_len 1 ((R.grid records.now).rows - 1))) }
+    ensures { OnOk result (found.new.items ≡ found.old.items ++ rows_passing (text_passes test.now) columns.now (map_grid R.Cell.text_of (R.grid records.now))) }
 {
     for row in 1..records.count_rows() {
         if row_passes(records, row, columns, test) {

@@ -3,7 +3,7 @@
 ghost use Rattle.std.specs.Prelude.{◌≡◌, ◌<◌, ◌≤◌, ◌-◌, ℕ, List, length, min, slice_index};
 ghost use Rattle.std.specs.List.Sorted.{IsStrictlyIncreasing};
 ghost use Rattle.tabled_grid.specs.Along.{count_along};
-ghost use Rattle.tabled_settings.specs.Arranged.{BringToFront, SwapForward, SwapsLines};
+ghost use Rattle.tabled_settings.specs.Arranged.{KeepsFront, SwapForward, SwapsLines};
 ghost use Rattle.tabled_settings.specs.Lines.{BringsLines, KeepsLines, ReversesLines, indexes_in, is_marked, unmarked};
 
 use std::ops::Range;
@@ -87,7 +87,7 @@ where
     requires well { R.is_well_formed records.old }
     requires forward { SwapForward swaps.now (count_along axis (R.grid records.old)) }
     ensures well { R.is_well_formed records.new }
-    ensures brought { (indexes : List ℕ) → BringToFront indexes swaps.now (count_along axis (R.grid records.old)) → KeepsLines axis indexes (R.grid records.old) (R.grid records.new) }
+    ensures brought { KeepsFront axis swaps.now (R.grid records.old) (R.grid records.new) }
 {
     swap_forward(axis, records, swaps);
     records.truncate_lines(axis, swaps.len());

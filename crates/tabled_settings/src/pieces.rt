@@ -5,8 +5,8 @@ ghost use Rattle.std.specs.Int.{div_ceil};
 ghost use Rattle.tabled_grid.specs.Along.{count_along};
 ghost use Rattle.tabled_grid.specs.Axis.{across};
 ghost use Rattle.tabled_grid.specs.Grid.{map_grid};
-ghost use Rattle.tabled_settings.specs.PiecePlaces.{staying_pieces};
-ghost use Rattle.tabled_settings.specs.Pieces.{clean_split, oriented, stays_in};
+ghost use Rattle.tabled_settings.specs.PiecePlaces.{clean_pieces};
+ghost use Rattle.tabled_settings.specs.Pieces.{clean_split, stays_in};
 ghost use Rattle.tabled_settings.specs.PieceTexts.{NoText, SomeText};
 
 use std::alloc::{AllocError, Global};
@@ -26,7 +26,7 @@ where
     requires well { R.is_well_formed records.now }
     requires lines { pieces.now.lines ≡ count_along pieces.now.axis (R.grid records.now) }
     requires width { pieces.now.width ≡ count_along (across pieces.now.axis) (R.grid records.now) }
-    ensures { IfOk result (λ staying. staying.items ≡ staying_pieces (clean_split pieces.now) (oriented pieces.now.axis (map_grid R.Cell.text_of (R.grid records.now)))) }
+    ensures { IfOk result (λ staying. staying.items ≡ clean_pieces pieces.now (map_grid R.Cell.text_of (R.grid records.now))) }
 {
     let mut staying = Vec::new(alloc);
     for nth in 0..pieces.lines * pieces.pieces {

@@ -7,7 +7,7 @@ ghost use Rattle.tabled_decimal.specs.Decimals.{number};
 ghost use Rattle.tabled_decimal.specs.Numbers.{decimal, number_cmp};
 ghost use Rattle.tabled_settings.specs.InOrder.{comes_before, in_order};
 ghost use Rattle.tabled_settings.specs.Keys.{lent_text, number_of_key};
-ghost use Rattle.tabled_settings.specs.Sorted.{directed, numbers_first, text_order};
+ghost use Rattle.tabled_settings.specs.Sorted.{directed, numbers_first, order_at, text_order};
 ghost use Rattle.tabled_settings.specs.declared.sort.SortKeys.TheVariants.{Numbers, Texts};
 
 use crate::sort::ranks::{cmp_ranks, ranks_of};
@@ -17,14 +17,14 @@ use tabled_decimal::Decimal;
 
 /// Puts indexes in order by the texts at them.
 pub(super) fn sort_by_texts(indexes: &mut [usize], texts: &[&str], descending: bool)
-    ensures { indexes.new ≡ in_order (comes_before (λ i j. text_order Texts descending (lent_text texts.now i) (lent_text texts.now j))) indexes.old }
+    ensures { indexes.new ≡ in_order (comes_before (order_at Texts descending texts.now)) indexes.old }
 {
     indexes.sort_unstable_by(|a, b| cmp_texts(texts, descending, *a, *b));
 }
 
 /// Compares two indexes by the texts at them, and then by themselves.
 fn cmp_texts(texts: &[&str], descending: bool, a: usize, b: usize) -> Ordering
-    ensures { result ≡ ordering_then (text_order Texts descending (lent_text texts.now a) (lent_text texts.now b)) (nat_cmp a b) }
+    ensures { result ≡ ordering_then (order_at Texts descending texts.now a b) (nat_cmp a b) }
 {
     let left = text_at(texts, a);
     let right = text_at(texts, b);
@@ -61,7 +61,7 @@ pub(super) fn sort_by_numbers(
     texts: &[&str],
     descending: bool,
 ) -> Result<(), AllocError>
-    ensures { OnOk result (indexes.new ≡ in_order (comes_before (λ i j. text_order Numbers descending (lent_text texts.now i) (lent_text texts.now j))) indexes.old) }
+    ensures { OnOk result (indexes.new ≡ in_order (comes_before (order_at Numbers descending texts.now)) indexes.old) }
 {
     if let Some(ranks) = ranks_of(alloc, texts, descending)? {
         let ranks = ranks.as_slice();

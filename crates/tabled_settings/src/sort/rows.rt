@@ -7,7 +7,7 @@ ghost use Rattle.tabled_grid.specs.Grid.{map_grid};
 ghost use Rattle.tabled_select.specs.Locators.{text_at};
 ghost use Rattle.tabled_settings.specs.InOrder.{comes_before, in_order, sorted_from};
 ghost use Rattle.tabled_settings.specs.Keys.{lent_text};
-ghost use Rattle.tabled_settings.specs.Sorted.{first_named, sort_column, sorted_rows, text_order};
+ghost use Rattle.tabled_settings.specs.Sorted.{column_texts, first_named, order_at, sort_column, sorted_rows, text_order};
 
 use crate::arranged::all_indexes;
 use crate::sort::by_key::{sort_by_numbers, sort_by_texts};
@@ -46,7 +46,7 @@ where
     R: Records + ExactRecords + PeekableRecords,
     R::Cell: CellText,
     requires well { R.is_well_formed records.now }
-    ensures { IfOk result (λ texts. map (λ t. t.now) texts.items ≡ map (λ (i : ℕ). text_at (map_grid R.Cell.text_of (R.grid records.now)) (place i column)) (range_with_len 0 ((R.grid records.now).rows))) }
+    ensures { IfOk result (λ texts. map (λ t. t.now) texts.items ≡ column_texts (map_grid R.Cell.text_of (R.grid records.now)) column) }
 {
     let rows = records.count_rows();
     let mut texts = Vec::with_capacity(alloc, rows)?;
@@ -112,7 +112,7 @@ fn sorted_from(
     keys: SortKeys,
     descending: bool,
 ) -> Result<Vec<usize>, AllocError>
-    ensures { IfOk result (λ rows. rows.items ≡ sorted_from from (λ i j. text_order keys descending (lent_text texts.now i) (lent_text texts.now j)) (length texts.now)) }
+    ensures { IfOk result (λ rows. rows.items ≡ sorted_from from (order_at keys descending texts.now) (length texts.now)) }
 {
     let mut rows = all_indexes(alloc, texts.len())?;
     sort_behind(alloc, rows.as_mut_slice(), from, texts, keys, descending)?;
@@ -128,7 +128,7 @@ fn sort_behind(
     keys: SortKeys,
     descending: bool,
 ) -> Result<(), AllocError>
-    ensures { OnOk result (indexes.new ≡ take from indexes.old ++ in_order (comes_before (λ i j. text_order keys descending (lent_text texts.now i) (lent_text texts.now j))) (drop from indexes.old)) }
+    ensures { OnOk result (indexes.new ≡ take from indexes.old ++ in_order (comes_before (order_at keys descending texts.now)) (drop from indexes.old)) }
 {
     if from >= indexes.len() {
         return Ok(());
@@ -144,7 +144,7 @@ fn sort_by(
     keys: SortKeys,
     descending: bool,
 ) -> Result<(), AllocError>
-    ensures { OnOk result (indexes.new ≡ in_order (comes_before (λ i j. text_order keys descending (lent_text texts.now i) (lent_text texts.now j))) indexes.old) }
+    ensures { OnOk result (indexes.new ≡ in_order (comes_before (order_at keys descending texts.now)) indexes.old) }
 {
     match keys {
         SortKeys::Texts => {
