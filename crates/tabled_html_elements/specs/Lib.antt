@@ -1,1 +1,5 @@
+pub mod Outcomes
+pub mod Parts
 pub mod Reading
+pub mod Tags
+pub mod Texts

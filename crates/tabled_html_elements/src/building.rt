@@ -1,12 +1,12 @@
 //! Elements, read.
 
 ghost use Rattle.std.specs.List.{list_all};
-ghost use Rattle.std.specs.Prelude.{◌≡◌, ◌<◌, ◌≤◌, ◌++◌, ◌∷◌, [], if◌then◌else◌, Bool, IfOk, List, MatchOption, MatchResult, None, Some, false, length};
-ghost use Rattle.tabled_html_reading.specs.Building.{Built, are_spans, built_after, closed, is_number_if};
-ghost use Rattle.tabled_html_reading.specs.Building.Mode.{Behind, InRow, InTable, InTableBody};
+ghost use Rattle.std.specs.Prelude.{◌≡◌, ◌<◌, ◌≤◌, IfOk, MatchOption, MatchResult, Some, length};
+ghost use Rattle.tabled_html_reading.specs.Building.{are_spans, built_after, closed, is_number_if};
 ghost use Rattle.tabled_html_reading.specs.Characters.{is_blank, is_digit};
-ghost use Rattle.tabled_html_reading.specs.Elements.{Element, Table, value_of};
-ghost use Rattle.tabled_html_elements.specs.Reading.{AreNone, IsBetween, built_from, ends_cell, in_cell, kept, opened, with_group};
+ghost use Rattle.tabled_html_reading.specs.Elements.{value_of};
+ghost use Rattle.tabled_html_elements.specs.Parts.{AddsCell, AddsNoCell, AddsNoRow, AddsNoRows, AddsRow, AddsRows, ContinuesBetween};
+ghost use Rattle.tabled_html_elements.specs.Reading.{built_from, ends_cell, kept};
 ghost use Rattle.tabled_html_reading.specs.Tokenizing.Token.{Marked};
 
 use crate::characters::{is_blank, is_digit};
@@ -42,7 +42,7 @@ pub(crate) fn read_tag_between<'a>(
     text: &mut Vec<u8>,
     bytes: &'a [u8],
 ) -> Result<Option<(Tag, &'a [u8])>, ReadError>
-    ensures read { MatchResult result (λ next. MatchOption next ((b : Built) → IsBetween b.mode → built_from (Some b) bytes.now ≡ closed (Some b)) (λ r. (b : Built) → IsBetween b.mode → built_from (Some b) bytes.now ≡ built_from (built_after (Some b) (Marked r.0)) r.1.now)) (λ e. (b : Built) → IsBetween b.mode → AreNone b bytes.now e) }
+    ensures read { ContinuesBetween result bytes.now (λ b. closed (Some b)) (λ r b. built_from (built_after (Some b) (Marked r.0)) r.1.now) }
     ensures shorter { IfOk result (λ next. MatchOption next (0 ≤ 0) (λ r. length r.1.now < length bytes.now)) }
 {
     let Some((tag, after)) = read_piece(alloc, text, bytes)? else {
@@ -115,7 +115,7 @@ fn read_cell<'a>(
     attributes: Vec<Attribute>,
     bytes: &'a [u8],
 ) -> Result<(Element, &'a [u8]), ReadError>
-    ensures read { MatchResult result (λ r. (table : Table) (is_head : Bool) (rows : List (List Element)) (cells : List Element) → built_from (Some (in_cell table is_head rows cells is_header attributes.items)) bytes.now ≡ built_from (Some (opened InRow table is_head rows (cells ++ (r.0 ∷ [])))) r.1.now) (λ e. (table : Table) (is_head : Bool) (rows : List (List Element)) (cells : List Element) → AreNone (in_cell table is_head rows cells is_header attributes.items) bytes.now e) }
+    ensures read { MatchResult result (λ r. AddsCell is_header attributes.items bytes.now r.0 r.1.now) (AddsNoCell is_header attributes.items bytes.now) }
     ensures shorter { IfOk result (λ r. length r.1.now < length bytes.now) }
 {
     let Some((tag, after)) = read_piece(alloc, text, bytes)? else {
@@ -143,7 +143,7 @@ pub(crate) fn read_row<'a>(
     text: &mut Vec<u8>,
     bytes: &'a [u8],
 ) -> Result<(Row, &'a [u8]), ReadError>
-    ensures read { MatchResult result (λ r. (table : Table) (is_head : Bool) (rows : List (List Element)) → built_from (Some (opened InRow table is_head rows [])) bytes.now ≡ built_from (Some (opened InTableBody table is_head (rows ++ (r.0 ∷ [])) [])) r.1.now) (λ e. (table : Table) (is_head : Bool) (rows : List (List Element)) → AreNone (opened InRow table is_head rows []) bytes.now e) }
+    ensures read { MatchResult result (λ r. AddsRow bytes.now r.0 r.1.now) (AddsNoRow bytes.now) }
     ensures shorter { IfOk result (λ r. length r.1.now < length bytes.now) }
 {
     let mut cells = Vec::new(alloc);
@@ -177,7 +177,7 @@ pub(crate) fn read_rows<'a>(
     rows: &mut Vec<Row>,
     bytes: &'a [u8],
 ) -> Result<(bool, &'a [u8]), ReadError>
-    ensures read { MatchResult result (λ r. (table : Table) → built_from (Some (opened InTableBody table is_head rows.old.items [])) bytes.now ≡ built_from (Some (opened (if r.0 then Behind else InTable) (with_group table is_head rows.new.items) false [] [])) r.1.now) (λ e. (table : Table) → AreNone (opened InTableBody table is_head rows.old.items []) bytes.now e) }
+    ensures read { MatchResult result (λ r. AddsRows is_head rows.old.items bytes.now r.0 rows.new.items r.1.now) (AddsNoRows is_head rows.old.items bytes.now) }
     ensures shorter { IfOk result (λ r. length r.1.now < length bytes.now) }
 {
     let mut rest = bytes;

@@ -1,13 +1,13 @@
 //! The elements of a table, read.
 
-ghost use Rattle.std.specs.Prelude.{◌≡◌, ◌<◌, ◌≤◌, ◌++◌, ◌∷◌, [], if◌then◌else◌, IfOk, List, MatchResult, None, Some, codes, false, length, true};
+ghost use Rattle.std.specs.Prelude.{◌≡◌, ◌<◌, IfOk, MatchResult, None, Some, codes, false, length, true};
 ghost use Rattle.std.specs.Str.{bytes_eq};
-ghost use Rattle.tabled_html_reading.specs.Building.{built_after, nothing_built, parsed};
+ghost use Rattle.tabled_html_reading.specs.Building.{nothing_built, parsed};
 ghost use Rattle.tabled_html_reading.specs.Building.Mode.{Behind, InCaption, InTable};
-ghost use Rattle.tabled_html_reading.specs.Elements.{Table};
-ghost use Rattle.tabled_html_elements.specs.Reading.{AreNone, IfFaulty, begins_table, built_from, ends_caption, may_have_caption, opened, with_caption, with_more};
+ghost use Rattle.tabled_html_elements.specs.Outcomes.{Continues, ContinuesEach};
+ghost use Rattle.tabled_html_elements.specs.Parts.{built_behind_group, built_behind_tag, built_outside};
+ghost use Rattle.tabled_html_elements.specs.Reading.{AreNone, IfFaulty, begins_table, built_from, ends_caption, may_have_caption, with_caption, with_more};
 ghost use Rattle.tabled_html_reading.specs.Tokenizing.{normalized};
-ghost use Rattle.tabled_html_reading.specs.Tokenizing.Token.{Marked};
 
 use crate::building::{kept, read_row, read_rows, read_tag_between};
 use crate::elements::{Group, Table, Tag};
@@ -36,7 +36,7 @@ fn read_caption<'a>(
     text: &mut Vec<u8>,
     bytes: &'a [u8],
 ) -> Result<(Vec<u8>, &'a [u8]), ReadError>
-    ensures read { MatchResult result (λ r. (table : Table) → built_from (Some (opened InCaption table false [] [])) bytes.now ≡ built_from (Some (opened InTable (with_caption table r.0.items) false [] [])) r.1.now) (λ e. (table : Table) → AreNone (opened InCaption table false [] []) bytes.now e) }
+    ensures read { ContinuesEach result (built_outside InCaption bytes.now) (λ r table. built_outside InTable r.1.now (with_caption table r.0.items)) }
     ensures shorter { IfOk result (λ r. length r.1.now < length bytes.now) }
 {
     let Some((tag, after)) = read_piece(alloc, text, bytes)? else {
@@ -59,7 +59,7 @@ fn read_group<'a>(
 ) -> Result<(Group, bool, &'a [u8]), ReadError>
     requires start { start.now.is_end ≡ false }
     requires apart { bytes_eq start.now.name (codes "caption") ≡ false }
-    ensures read { MatchResult result (λ r. (table : Table) → built_from (built_after (Some (opened InTable table false [] [])) (Marked start.now)) bytes.now ≡ built_from (Some (opened (if r.1 then Behind else InTable) (with_more table r.0) false [] [])) r.2.now) (λ e. (table : Table) → IfFaulty e (built_from (built_after (Some (opened InTable table false [] [])) (Marked start.now)) bytes.now ≡ None)) }
+    ensures read { ContinuesEach result (built_behind_tag start.now bytes.now) (λ r table. built_behind_group r.1 r.2.now (with_more table r.0)) }
     ensures shorter { IfOk result (λ r. length r.2.now < length bytes.now) }
 {
     let mut rows = Vec::new(alloc);
@@ -94,7 +94,7 @@ fn add_caption<'a>(
 ) -> Result<&'a [u8], ReadError>
     requires start { start.now.is_end ≡ false }
     requires caption { bytes_eq start.now.name (codes "caption") ≡ true }
-    ensures read { MatchResult result (λ after. built_from (built_after (Some (opened InTable table.old false [] [])) (Marked start.now)) bytes.now ≡ built_from (Some (opened InTable table.new false [] [])) after.now) (λ e. IfFaulty e (built_from (built_after (Some (opened InTable table.old false [] [])) (Marked start.now)) bytes.now ≡ None)) }
+    ensures read { Continues result (built_behind_tag start.now bytes.now table.old) (λ after. built_outside InTable after.now table.new) }
     ensures shorter { IfOk result (λ after. length after.now < length bytes.now) }
 {
     if !may_have_caption(table) {
@@ -115,7 +115,7 @@ fn add_group<'a>(
 ) -> Result<(bool, &'a [u8]), ReadError>
     requires start { start.now.is_end ≡ false }
     requires apart { bytes_eq start.now.name (codes "caption") ≡ false }
-    ensures read { MatchResult result (λ r. built_from (built_after (Some (opened InTable table.old false [] [])) (Marked start.now)) bytes.now ≡ built_from (Some (opened (if r.0 then Behind else InTable) table.new false [] [])) r.1.now) (λ e. IfFaulty e (built_from (built_after (Some (opened InTable table.old false [] [])) (Marked start.now)) bytes.now ≡ None)) }
+    ensures read { Continues result (built_behind_tag start.now bytes.now table.old) (λ r. built_behind_group r.0 r.1.now table.new) }
     ensures shorter { IfOk result (λ r. length r.1.now < length bytes.now) }
 {
     let (group, is_last, after) = read_group(alloc, text, start, bytes)?;
@@ -130,7 +130,7 @@ fn read_parts<'a>(
     table: &mut Table,
     bytes: &'a [u8],
 ) -> Result<&'a [u8], ReadError>
-    ensures read { MatchResult result (λ after. built_from (Some (opened InTable table.old false [] [])) bytes.now ≡ built_from (Some (opened Behind table.new false [] [])) after.now) (AreNone (opened InTable table.old false [] []) bytes.now) }
+    ensures read { Continues result (built_outside InTable bytes.now table.old) (λ after. built_outside Behind after.now table.new) }
     ensures shorter { IfOk result (λ after. length after.now < length bytes.now) }
 {
     let mut rest = bytes;

@@ -1,6 +1,7 @@
 //! Character references, read.
 
 ghost use Rattle.std.specs.Prelude.{◌≡◌, ◌-◌, ◌<◌, ◌≤◌, ◌++◌, ◌∷◌, [], ℕ, List, IfOk, MatchOption, MatchResult, None, Some, codes, encode_utf8, length, map, slice_index_or};
+ghost use Rattle.tabled_html_elements.specs.Outcomes.{Continues};
 ghost use Rattle.tabled_html_elements.specs.Reading.{HaveNone, ReadsOn, spelled};
 ghost use Rattle.tabled_html_reading.specs.Tokenizing.{Step, characters, emit, named, referenced, replacements, tokens_from};
 ghost use Rattle.tabled_html_reading.specs.Tokenizing.State.{CharacterReference, Data, Decimal, Hexadecimal, HexadecimalStart, NamedCharacterReference, NumericCharacterReference};
@@ -112,7 +113,7 @@ fn named(name: &[u8]) -> Option<u8>
 
 /// Reads a reference's name behind its first letter, and the semicolon behind it. The character that it stands for.
 fn read_name<'a>(alloc: Global, first: u8, bytes: &'a [u8]) -> Result<(u8, &'a [u8]), ReadError>
-    ensures read { MatchResult result (λ r. tokens_from bytes.now (NamedCharacterReference (first ∷ [])) ≡ emit (Character r.0 ∷ []) (tokens_from r.1.now Data)) (HaveNone bytes.now (NamedCharacterReference (first ∷ []))) }
+    ensures read { Continues result (tokens_from bytes.now (NamedCharacterReference (first ∷ []))) (λ r. emit (Character r.0 ∷ []) (tokens_from r.1.now Data)) }
     ensures shorter { IfOk result (λ r. length r.1.now ≤ length bytes.now) }
 {
     let mut name = Vec::new(alloc);
@@ -176,7 +177,7 @@ pub(crate) fn read_reference<'a>(
     text: &mut Vec<u8>,
     bytes: &'a [u8],
 ) -> Result<&'a [u8], ReadError>
-    ensures read { MatchResult result (λ after. ReadsOn bytes.now CharacterReference text.old.items text.new.items after.now) (HaveNone bytes.now CharacterReference) }
+    ensures read { MatchResult result (λ r. ReadsOn bytes.now CharacterReference text.old.items text.new.items r.now) (HaveNone bytes.now CharacterReference) }
     ensures shorter { IfOk result (λ after. length after.now ≤ length bytes.now) }
 {
     let Some((first, behind)) = bytes.split_first() else {

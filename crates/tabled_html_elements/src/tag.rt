@@ -1,10 +1,12 @@
 //! Tags, read.
 
-ghost use Rattle.std.specs.Prelude.{◌≡◌, ◌<◌, ◌≤◌, ◌∷◌, [], ℕ, Bool, List, IfOk, MatchResult, false, is_some, length, true};
+ghost use Rattle.std.specs.Prelude.{◌≡◌, ◌<◌, ◌≤◌, ◌∷◌, [], IfOk, MatchResult, is_some, length};
 ghost use Rattle.tabled_html_reading.specs.Characters.{lowercase};
 ghost use Rattle.tabled_html_reading.specs.Elements.{value_of};
+ghost use Rattle.tabled_html_elements.specs.Outcomes.{Continues, ContinuesEach};
 ghost use Rattle.tabled_html_elements.specs.Reading.{HaveNone};
-ghost use Rattle.tabled_html_reading.specs.Tokenizing.{Tag, emit, tag, tokens_from, with_attribute};
+ghost use Rattle.tabled_html_elements.specs.Tags.{AddsAttributes, Leads, LeadsNamed, behind_tag, in_tag};
+ghost use Rattle.tabled_html_reading.specs.Tokenizing.{emit, tag, tokens_from, with_attribute};
 ghost use Rattle.tabled_html_reading.specs.Tokenizing.State.{AfterAttributeValue, AttributeName, AttributeValue, BeforeAttributeName, BeforeAttributeValue, Data, TagName, TagOpen};
 ghost use Rattle.tabled_html_reading.specs.Tokenizing.Token.{Marked};
 
@@ -15,7 +17,7 @@ use std::alloc::Global;
 
 /// Reads a tag's name behind its first letter, up to the blank or the bracket behind it.
 fn read_name<'a>(name: &mut Vec<u8>, bytes: &'a [u8]) -> Result<&'a [u8], ReadError>
-    ensures read { MatchResult result (λ after. (is_end : Bool) → tokens_from bytes.now (TagName (tag is_end name.old.items)) ≡ tokens_from after.now (BeforeAttributeName (tag is_end name.new.items))) (λ e. (is_end : Bool) → HaveNone bytes.now (TagName (tag is_end name.old.items)) e) }
+    ensures read { Leads result bytes.now (λ is_end. TagName (tag is_end name.old.items)) (λ is_end. BeforeAttributeName (tag is_end name.new.items)) }
     ensures shorter { IfOk result (λ after. length after.now ≤ length bytes.now) }
 {
     let mut rest = bytes;
@@ -36,7 +38,7 @@ fn read_name<'a>(name: &mut Vec<u8>, bytes: &'a [u8]) -> Result<&'a [u8], ReadEr
 
 /// Reads an attribute's name behind its first letter, and the equals sign behind it.
 fn read_attribute_name<'a>(name: &mut Vec<u8>, bytes: &'a [u8]) -> Result<&'a [u8], ReadError>
-    ensures read { MatchResult result (λ after. (t : Tag) → tokens_from bytes.now (AttributeName t name.old.items) ≡ tokens_from after.now (BeforeAttributeValue t name.new.items)) (λ e. (t : Tag) → HaveNone bytes.now (AttributeName t name.old.items) e) }
+    ensures read { Leads result bytes.now (λ t. AttributeName t name.old.items) (λ t. BeforeAttributeValue t name.new.items) }
     ensures shorter { IfOk result (λ after. length after.now < length bytes.now) }
 {
     let mut rest = bytes;
@@ -57,7 +59,7 @@ fn read_attribute_name<'a>(name: &mut Vec<u8>, bytes: &'a [u8]) -> Result<&'a [u
 
 /// Reads blanks, and the quote behind them.
 fn read_quote(bytes: &[u8]) -> Result<&[u8], ReadError>
-    ensures read { MatchResult result (λ after. (t : Tag) (name : List ℕ) → tokens_from bytes.now (BeforeAttributeValue t name) ≡ tokens_from after.now (AttributeValue t name [])) (λ e. (t : Tag) (name : List ℕ) → HaveNone bytes.now (BeforeAttributeValue t name) e) }
+    ensures read { LeadsNamed result bytes.now BeforeAttributeValue (λ t name. AttributeValue t name []) }
     ensures shorter { IfOk result (λ after. length after.now < length bytes.now) }
 {
     let mut rest = bytes;
@@ -77,7 +79,7 @@ fn read_quote(bytes: &[u8]) -> Result<&[u8], ReadError>
 
 /// Reads an attribute's value, and the quote behind it.
 fn read_value<'a>(value: &mut Vec<u8>, bytes: &'a [u8]) -> Result<&'a [u8], ReadError>
-    ensures read { MatchResult result (λ after. (t : Tag) (name : List ℕ) → tokens_from bytes.now (AttributeValue t name value.old.items) ≡ tokens_from after.now (AfterAttributeValue (with_attribute t name value.new.items))) (λ e. (t : Tag) (name : List ℕ) → HaveNone bytes.now (AttributeValue t name value.old.items) e) }
+    ensures read { LeadsNamed result bytes.now (λ t n. AttributeValue t n value.old.items) (λ t n. AfterAttributeValue (with_attribute t n value.new.items)) }
     ensures shorter { IfOk result (λ after. length after.now < length bytes.now) }
 {
     let mut rest = bytes;
@@ -98,7 +100,7 @@ fn read_value<'a>(value: &mut Vec<u8>, bytes: &'a [u8]) -> Result<&'a [u8], Read
 
 /// Sees that a blank or a bracket is behind an attribute.
 fn read_end(bytes: &[u8]) -> Result<(), ReadError>
-    ensures read { MatchResult result (λ _. (t : Tag) → tokens_from bytes.now (AfterAttributeValue t) ≡ tokens_from bytes.now (BeforeAttributeName t)) (λ e. (t : Tag) → HaveNone bytes.now (AfterAttributeValue t) e) }
+    ensures read { ContinuesEach result (λ t. tokens_from bytes.now (AfterAttributeValue t)) (λ _ t. tokens_from bytes.now (BeforeAttributeName t)) }
 {
     let Some((first, _behind)) = bytes.split_first() else {
         return Err(ReadError::NoTable);
@@ -128,7 +130,7 @@ fn read_attribute<'a>(
     letter: u8,
     bytes: &'a [u8],
 ) -> Result<&'a [u8], ReadError>
-    ensures read { MatchResult result (λ after. (t : Tag) → t.attributes ≡ attributes.old.items → tokens_from bytes.now (AttributeName t (lowercase letter ∷ [])) ≡ tokens_from after.now (BeforeAttributeName (record t { attributes = attributes.new.items }))) (λ e. (t : Tag) → t.attributes ≡ attributes.old.items → HaveNone bytes.now (AttributeName t (lowercase letter ∷ [])) e) }
+    ensures read { AddsAttributes result bytes.now attributes.old.items attributes.new.items (λ t. AttributeName t (lowercase letter ∷ [])) in_tag }
     ensures shorter { IfOk result (λ after. length after.now < length bytes.now) }
 {
     let mut name = Vec::new(alloc);
@@ -150,7 +152,7 @@ fn read_attributes<'a>(
     attributes: &mut Vec<Attribute>,
     bytes: &'a [u8],
 ) -> Result<&'a [u8], ReadError>
-    ensures read { MatchResult result (λ after. (t : Tag) → t.attributes ≡ attributes.old.items → tokens_from bytes.now (BeforeAttributeName t) ≡ emit (Marked (record t { attributes = attributes.new.items }) ∷ []) (tokens_from after.now Data)) (λ e. (t : Tag) → t.attributes ≡ attributes.old.items → HaveNone bytes.now (BeforeAttributeName t) e) }
+    ensures read { AddsAttributes result bytes.now attributes.old.items attributes.new.items BeforeAttributeName behind_tag }
     ensures shorter { IfOk result (λ after. length after.now < length bytes.now) }
 {
     let mut rest = bytes;
@@ -178,7 +180,7 @@ fn read_named<'a>(
     letter: u8,
     bytes: &'a [u8],
 ) -> Result<(Tag, &'a [u8]), ReadError>
-    ensures read { MatchResult result (λ r. tokens_from bytes.now (TagName (tag is_end (lowercase letter ∷ []))) ≡ emit (Marked r.0 ∷ []) (tokens_from r.1.now Data)) (HaveNone bytes.now (TagName (tag is_end (lowercase letter ∷ [])))) }
+    ensures read { Continues result (tokens_from bytes.now (TagName (tag is_end (lowercase letter ∷ [])))) (λ r. behind_tag r.1.now r.0) }
     ensures shorter { IfOk result (λ r. length r.1.now < length bytes.now) }
 {
     let mut name = Vec::new(alloc);

@@ -1,10 +1,9 @@
 //! Characters, read.
 
-ghost use Rattle.std.specs.Prelude.{◌≡◌, ◌<◌, ◌≤◌, ◌++◌, ◌∷◌, [], IfOk, MatchOption, MatchResult, None, Some, length};
-ghost use Rattle.tabled_html_elements.specs.Reading.{HaveNone, IfFaulty};
-ghost use Rattle.tabled_html_reading.specs.Tokenizing.{characters, emit, tokens_from};
+ghost use Rattle.std.specs.Prelude.{◌<◌, ◌≤◌, IfOk, MatchOption, length};
+ghost use Rattle.tabled_html_elements.specs.Texts.{ReadsText, behind_text, text_and_tag};
+ghost use Rattle.tabled_html_reading.specs.Tokenizing.{emit, tokens_from};
 ghost use Rattle.tabled_html_reading.specs.Tokenizing.State.{Data, TagOpen};
-ghost use Rattle.tabled_html_reading.specs.Tokenizing.Token.{Marked};
 
 use crate::elements::Tag;
 use crate::fault::ReadError;
@@ -18,7 +17,7 @@ fn read_characters<'a>(
     text: &mut Vec<u8>,
     bytes: &'a [u8],
 ) -> Result<Option<&'a [u8]>, ReadError>
-    ensures read { MatchResult result (λ next. MatchOption next (emit (characters text.old.items) (tokens_from bytes.now Data) ≡ Some (characters text.new.items)) (λ after. emit (characters text.old.items) (tokens_from bytes.now Data) ≡ emit (characters text.new.items) (tokens_from after.now TagOpen))) (λ e. IfFaulty e (emit (characters text.old.items) (tokens_from bytes.now Data) ≡ None)) }
+    ensures read { ReadsText result (behind_text text.old.items bytes.now Data) text.new.items (λ after. behind_text text.new.items after.now TagOpen) }
     ensures shorter { IfOk result (λ next. MatchOption next (0 ≤ 0) (λ after. length after.now < length bytes.now)) }
 {
     let mut rest = bytes;
@@ -44,7 +43,7 @@ pub(crate) fn read_piece<'a>(
     text: &mut Vec<u8>,
     bytes: &'a [u8],
 ) -> Result<Option<(Tag, &'a [u8])>, ReadError>
-    ensures read { MatchResult result (λ next. MatchOption next (tokens_from bytes.now Data ≡ Some (characters text.new.items)) (λ r. tokens_from bytes.now Data ≡ emit (characters text.new.items ++ (Marked r.0 ∷ [])) (tokens_from r.1.now Data))) (HaveNone bytes.now Data) }
+    ensures read { ReadsText result (tokens_from bytes.now Data) text.new.items (λ r. emit (text_and_tag text.new.items r.0) (tokens_from r.1.now Data)) }
     ensures shorter { IfOk result (λ next. MatchOption next (0 ≤ 0) (λ r. length r.1.now < length bytes.now)) }
 {
     text.clear();
