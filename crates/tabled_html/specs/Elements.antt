@@ -3,7 +3,7 @@ use Rattle.std.specs.Prelude.{◌+◌, ◌-◌, ◌&&◌, ◌++◌, if◌then◌
 use Rattle.std.specs.List.{list_all}
 use Rattle.std.specs.Option.{unwrap_or}
 use Rattle.tabled_grid.specs.Entity.{place}
-use Rattle.tabled_grid.specs.Grid.{Grid, cell_at}
+use Rattle.tabled_grid.specs.Grid.{Grid, cell_at, map_grid}
 use Rattle.tabled_grid.specs.Hidden.{is_hidden}
 use Rattle.tabled_grid.specs.Shifts.{is_crossed}
 use Rattle.tabled_grid.specs.Spans.{SpanMap, size_at}
@@ -74,6 +74,10 @@ row_of g m look i = series g.columns (λ j. begun_at g m look (place i j))
 abbrev pub rows_of : Grid (List ℕ) → SpanMap → Look → ℕ → ℕ → List (List Element)
 rows_of g m look first count = series count (λ k. row_of g m look (first + k) ∷ [])
 
+-- the same of cells that have texts
+abbrev pub rows_of_cells : {A : Type 0} → (A → List ℕ) → Grid A → SpanMap → Look → ℕ → ℕ → List (List Element)
+rows_of_cells text_of g m look first count = rows_of (map_grid text_of g) m look first count
+
 -- ---- the table
 
 -- the header is the head of the table: there are so many rows, and no merged cell crosses its end
@@ -119,3 +123,7 @@ framed is_whole bytes = if is_whole then page_start ++ (bytes ++ page_end) else 
 -- the bytes that are written
 abbrev pub html : Grid (List ℕ) → SpanMap → Look → List ℕ
 html g m look = framed look.is_whole (fragment g m look)
+
+-- the same of cells that have texts
+abbrev pub html_of : {A : Type 0} → (A → List ℕ) → Grid A → SpanMap → Look → List ℕ
+html_of text_of g m look = html (map_grid text_of g) m look

@@ -1,12 +1,13 @@
 -- What holds of tables as HTML.
 use Rattle.std.specs.Prelude.{◌≡◌, ◌<◌, ◌==◌, ◌&&◌, ◌||◌, ℕ, Bool, List, [], ◌∷◌, Some, false, not, Err, Ok, Result}
 use Rattle.tabled_grid.specs.Entity.{place}
-use Rattle.tabled_grid.specs.Grid.{Grid, map_grid}
+use Rattle.tabled_grid.specs.Grid.{Grid, IsEmptyWithoutRows, map_grid}
 use Rattle.tabled_grid.specs.Spans.{SpanMap, rectangles, sized}
 use Rattle.tabled_grid.specs.declared.config.rectangle.Rectangle.{Rectangle}
 use Rattle.tabled_html_reading.specs.Areas.{Area, IsOutside}
 use Rattle.tabled_html_reading.specs.Building.{parsed}
-use Rattle.tabled_html.specs.Elements.{element_at, groups_of, table}
+use Rattle.tabled_html.specs.Elements.{element_at, fragment, groups_of, table}
+use Rattle.tabled_html.specs.Limits.{keep_written}
 use Rattle.tabled_html.specs.Looks.{Look}
 use Rattle.std.specs.Option.{option_map}
 use Rattle.tabled_html_reading.specs.Elements.{Element}
@@ -52,6 +53,10 @@ pub record IsFormed (g : Grid (List ℕ)) (m : SpanMap) (look : Look) (f : Formi
   pub outside : (x y : ℕ) → IsOutside g.columns g.rows x y → cells_at f.covered x y ≡ []
   pub anchors : lacks_anchors f ≡ lacks_owners g m
 
+-- the table that is formed of the row groups is the grid
+abbrev pub FormsTheGrid : Grid (List ℕ) → SpanMap → Look → Type 0
+FormsTheGrid g m look = IsFormed g m look (forming_a_table (groups_of g m look))
+
 -- the look with its caption as it is shown
 abbrev pub shown_look : Look → Look
 shown_look look = record look { caption = option_map shown look.caption }
@@ -60,6 +65,10 @@ shown_look look = record look { caption = option_map shown look.caption }
 pub record Shows (g : Grid (List ℕ)) (m : SpanMap) (look : Look) (bytes : List ℕ) : Type 0 where
   pub read : parsed bytes ≡ Some (table (map_grid shown g) m (shown_look look))
   pub formed : IsFormed (map_grid shown g) m look (forming_a_table (groups_of (map_grid shown g) m look))
+
+-- if a grid without rows has no columns, the bytes of its table show it, by its cells' texts and with the merged cells that are written
+abbrev pub ShowsCells : {A : Type 0} → (A → List ℕ) → Grid A → SpanMap → Look → Type 0
+ShowsCells text_of g m look = IsEmptyWithoutRows g → Shows (map_grid text_of g) (keep_written g.rows g.columns m) look (fragment (map_grid text_of g) m look)
 
 -- a writer failed, and this holds then
 abbrev pub OnFailed : Result (Unit {0}) WriteError → Type 0 → Type 0

@@ -4,16 +4,15 @@ ghost use Rattle.std.specs.Prelude.{ℕ, List};
 ghost use Rattle.tabled_grid.specs.Fitting.{Fits};
 ghost use Rattle.tabled_grid.specs.Grid.{Grid, IsEmptyWithoutRows};
 ghost use Rattle.tabled_grid.specs.Spans.{SpanMap};
-ghost use Rattle.tabled_html.specs.Elements.{fragment, groups_of};
-ghost use Rattle.tabled_html.specs.Laws.{IsFormed, Shows};
+ghost use Rattle.tabled_html.specs.Elements.{fragment};
+ghost use Rattle.tabled_html.specs.Laws.{FormsTheGrid, Shows};
 ghost use Rattle.tabled_html.specs.Limits.{AreWithinLimits, keep_written};
 ghost use Rattle.tabled_html.specs.Looks.{Look};
-ghost use Rattle.tabled_html_reading.specs.Forming.{forming_a_table};
 
 /// The table that is formed of the written row groups is the grid, if its merged cells fit and are within the standard's
 /// limits.
 pub fn written_rows_form_the_grid()
-    ensures { (g : Grid (List ℕ)) (m : SpanMap) (look : Look) → IsEmptyWithoutRows g → Fits m g.rows g.columns → AreWithinLimits m → IsFormed g m look (forming_a_table (groups_of g m look)) }
+    ensures { (g : Grid (List ℕ)) (m : SpanMap) (look : Look) → IsEmptyWithoutRows g → Fits m g.rows g.columns → AreWithinLimits m → FormsTheGrid g m look }
 {}
 
 /// What is written is read as elements that form the grid, with the merged cells that fit and that HTML can say.

@@ -5,7 +5,7 @@ ghost use Rattle.std.specs.Prelude.{◌≡◌, ◌&&◌, ◌+◌, ◌<◌, ◌�
 ghost use Rattle.tabled_grid.specs.Fitting.{Fits};
 ghost use Rattle.tabled_grid.specs.Grid.{IsInside, map_grid};
 ghost use Rattle.tabled_held.specs.Pens.{Sends};
-ghost use Rattle.tabled_html.specs.Elements.{begun_at, group, groups_of, has_head, row_of, rows_of};
+ghost use Rattle.tabled_html.specs.Elements.{begun_at, group, groups_of, has_head, row_of, rows_of, rows_of_cells};
 ghost use Rattle.tabled_html.specs.Ends.{AreEnds};
 ghost use Rattle.tabled_html_reading.specs.Bytes.{cell_bytes, group_bytes, group_end, group_start, row_bytes};
 
@@ -159,7 +159,7 @@ where
     requires numbered { (R.grid records.now).rows < 2 ^ 64 }
     requires fits { Fits cfg.now (R.grid records.now).rows (R.grid records.now).columns }
     requires ends { AreEnds cfg.now (R.grid records.now).rows (R.grid records.now).columns first 0 ends.old }
-    ensures sent { Sends W.contents pen.old pen.new (group_bytes (group is_head (rows_of (map_grid R.Cell.text_of (R.grid records.now)) cfg.now page.now first count))) }
+    ensures sent { Sends W.contents pen.old pen.new (group_bytes (group is_head (rows_of_cells R.Cell.text_of (R.grid records.now) cfg.now page.now first count))) }
     ensures ends { AreEnds cfg.now (R.grid records.now).rows (R.grid records.now).columns (first + count) 0 ends.new }
 {
     write_start(pen, is_head);

@@ -6,13 +6,12 @@ ghost use Rattle.std.specs.List.{flat_map, list_all};
 ghost use Rattle.std.specs.Option.{option_map};
 ghost use Rattle.std.specs.Prelude.{◌≡◌, Err, List, OnOk, Some, ℕ};
 ghost use Rattle.tabled_grid.specs.Fitting.{Fits};
-ghost use Rattle.tabled_grid.specs.Grid.{IsEmptyWithoutRows, map_grid};
+ghost use Rattle.tabled_grid.specs.Grid.{map_grid};
 ghost use Rattle.tabled_held.specs.Pens.{Sends};
 ghost use Rattle.tabled_held.specs.Sent.{IsCutShort};
-ghost use Rattle.tabled_html.specs.Elements.{class_attribute, fragment, framed, html, page_end, page_start, table};
+ghost use Rattle.tabled_html.specs.Elements.{class_attribute, framed, html_of, page_end, page_start, table};
 ghost use Rattle.tabled_html.specs.Ends.{AreEnds};
-ghost use Rattle.tabled_html.specs.Laws.{OnFailed, Shows};
-ghost use Rattle.tabled_html.specs.Limits.{keep_written};
+ghost use Rattle.tabled_html.specs.Laws.{OnFailed, ShowsCells};
 ghost use Rattle.tabled_html.specs.Looks.{plain_look};
 ghost use Rattle.tabled_html.specs.declared.fault.WriteError.TheVariants.{OutOfMemory};
 ghost use Rattle.tabled_html_reading.specs.Bytes.{attribute_bytes, caption_bytes, table_bytes};
@@ -157,14 +156,14 @@ where
     R: Records + ExactRecords + PeekableRecords,
     R::Cell: CellText,
     requires well { R.is_well_formed records.now }
-    ensures written { OnOk result (Appends (W.contents writer.old) (W.contents writer.new) (html (map_grid R.Cell.text_of (R.grid records.now)) cfg.now plain_look)) }
+    ensures written { OnOk result (Appends (W.contents writer.old) (W.contents writer.new) (html_of R.Cell.text_of (R.grid records.now) cfg.now plain_look)) }
 
     // What is written is read as elements that form the grid.
-    ensures shows { OnOk result (IsEmptyWithoutRows (R.grid records.now) → Shows (map_grid R.Cell.text_of (R.grid records.now)) (keep_written (R.grid records.now).rows (R.grid records.now).columns cfg.now) plain_look (fragment (map_grid R.Cell.text_of (R.grid records.now)) cfg.now plain_look)) }
+    ensures shows { OnOk result (ShowsCells R.Cell.text_of (R.grid records.now) cfg.now plain_look) }
 
     // Where memory is refused the writer got nothing, and where it failed the first bytes, and not all.
     ensures memory { result ≡ Err OutOfMemory → W.contents writer.new ≡ W.contents writer.old }
-    ensures failed { OnFailed result (IsCutShort (W.contents writer.old) (W.contents writer.new) (html (map_grid R.Cell.text_of (R.grid records.now)) cfg.now plain_look)) }
+    ensures failed { OnFailed result (IsCutShort (W.contents writer.old) (W.contents writer.new) (html_of R.Cell.text_of (R.grid records.now) cfg.now plain_look)) }
 {
     let page = Page::new();
     write_with(alloc, writer, records, cfg, &page)
@@ -186,14 +185,14 @@ where
     R: Records + ExactRecords + PeekableRecords,
     R::Cell: CellText,
     requires well { R.is_well_formed records.now }
-    ensures written { OnOk result (Appends (W.contents writer.old) (W.contents writer.new) (html (map_grid R.Cell.text_of (R.grid records.now)) cfg.now page.now)) }
+    ensures written { OnOk result (Appends (W.contents writer.old) (W.contents writer.new) (html_of R.Cell.text_of (R.grid records.now) cfg.now page.now)) }
 
     // The table that is written is read as elements that form the grid.
-    ensures shows { OnOk result (IsEmptyWithoutRows (R.grid records.now) → Shows (map_grid R.Cell.text_of (R.grid records.now)) (keep_written (R.grid records.now).rows (R.grid records.now).columns cfg.now) page.now (fragment (map_grid R.Cell.text_of (R.grid records.now)) cfg.now page.now)) }
+    ensures shows { OnOk result (ShowsCells R.Cell.text_of (R.grid records.now) cfg.now page.now) }
 
     // Where memory is refused the writer got nothing, and where it failed the first bytes, and not all.
     ensures memory { result ≡ Err OutOfMemory → W.contents writer.new ≡ W.contents writer.old }
-    ensures failed { OnFailed result (IsCutShort (W.contents writer.old) (W.contents writer.new) (html (map_grid R.Cell.text_of (R.grid records.now)) cfg.now page.now)) }
+    ensures failed { OnFailed result (IsCutShort (W.contents writer.old) (W.contents writer.new) (html_of R.Cell.text_of (R.grid records.now) cfg.now page.now)) }
 {
     let rows = records.count_rows();
     let columns = records.count_columns();
