@@ -3,10 +3,12 @@ use Rattle.std.specs.Prelude.{◌≡◌, MatchResult, None, Option, Result}
 use Rattle.tabled_html_elements.specs.Reading.{IfFaulty}
 use Rattle.tabled_html_elements.specs.declared.fault.ReadError.{ReadError}
 
--- what was to be read is what a value leaves to be read; where bytes are no table, it is none
+-- all that was to be read is what a value leaves to be read; where bytes are no table, it is none
 abbrev pub Continues : {T X : Type 0} → Result T ReadError → Option X → (T → Option X) → Type 0
 Continues result whole rest = MatchResult result (λ r. whole ≡ rest r) (λ e. IfFaulty e (whole ≡ None))
 
--- the same behind each of what may be in front
+-- the same, whatever was read in front
 abbrev pub ContinuesEach : {A T X : Type 0} → Result T ReadError → (A → Option X) → (T → A → Option X) → Type 0
-ContinuesEach {A} result whole rest = MatchResult result (λ r. (x : A) → whole x ≡ rest r x) (λ e. (x : A) → IfFaulty e (whole x ≡ None))
+ContinuesEach {A} result whole rest = MatchResult result
+    (λ r. (x : A) → whole x ≡ rest r x)
+    (λ e. (x : A) → IfFaulty e (whole x ≡ None))

@@ -24,29 +24,43 @@ built_behind_group is_last bytes table = built_outside (if is_last then Behind e
 abbrev pub built_behind_tag : Tag → List ℕ → Table → Option Table
 built_behind_tag start bytes table = built_from (built_after (Some (outside_groups InTable table)) (Marked start)) bytes
 
--- behind what is built in a mode between texts, bytes have the table that is closed there, or the one that a value leaves to be built, or none
-abbrev pub ContinuesBetween : {T : Type 0} → Result (Option T) ReadError → List ℕ → (Built → Option Table) → (T → Built → Option Table) → Type 0
-ContinuesBetween result bytes end rest = MatchResult result (λ next. MatchOption next ((b : Built) → IsBetween b.mode → built_from (Some b) bytes ≡ end b) (λ r. (b : Built) → IsBetween b.mode → built_from (Some b) bytes ≡ rest r b)) (λ e. (b : Built) → IsBetween b.mode → AreNone b bytes e)
+-- behind what is built in each mode between texts, the table of bytes is that of an end, or the one that a value leaves to be
+-- built; where bytes are no table, there is none
+abbrev pub ContinuesBetween : {T : Type 0} → Result (Option T) ReadError → List ℕ
+    → (Built → Option Table) → (T → Built → Option Table) → Type 0
+ContinuesBetween result bytes end rest = MatchResult result
+    (λ next. MatchOption next
+    ((b : Built) → IsBetween b.mode → built_from (Some b) bytes ≡ end b)
+    (λ r. (b : Built) → IsBetween b.mode → built_from (Some b) bytes ≡ rest r b))
+    (λ e. (b : Built) → IsBetween b.mode → AreNone b bytes e)
 
--- bytes are the rest of a cell of each row, and others behind it
+-- in a cell of each row, bytes are the rest of that cell, which the row then has, and other bytes behind it
 abbrev pub AddsCell : Bool → List Attribute → List ℕ → Element → List ℕ → Type 0
-AddsCell is_header attributes bytes cell after = (table : Table) (is_head : Bool) (rows : List (List Element)) (cells : List Element) → built_from (Some (in_cell table is_head rows cells is_header attributes)) bytes ≡ built_from (Some (opened InRow table is_head rows (cells ++ (cell ∷ [])))) after
+AddsCell is_header attributes bytes cell after = (table : Table) (is_head : Bool) (rows : List (List Element)) (cells : List Element)
+    → built_from (Some (in_cell table is_head rows cells is_header attributes)) bytes
+    ≡ built_from (Some (opened InRow table is_head rows (cells ++ (cell ∷ [])))) after
 
 -- in a cell of each row, bytes are no table, if they were faulty
 abbrev pub AddsNoCell : Bool → List Attribute → List ℕ → ReadError → Type 0
-AddsNoCell is_header attributes bytes e = (table : Table) (is_head : Bool) (rows : List (List Element)) (cells : List Element) → AreNone (in_cell table is_head rows cells is_header attributes) bytes e
+AddsNoCell is_header attributes bytes e = (table : Table) (is_head : Bool) (rows : List (List Element)) (cells : List Element)
+    → AreNone (in_cell table is_head rows cells is_header attributes) bytes e
 
--- bytes are the rest of a row of each row group, and others behind it
+-- in a row of each row group, bytes are the rest of that row, which the group then has, and other bytes behind it
 abbrev pub AddsRow : List ℕ → List Element → List ℕ → Type 0
-AddsRow bytes row after = (table : Table) (is_head : Bool) (rows : List (List Element)) → built_from (Some (opened InRow table is_head rows [])) bytes ≡ built_from (Some (opened InTableBody table is_head (rows ++ (row ∷ [])) [])) after
+AddsRow bytes row after = (table : Table) (is_head : Bool) (rows : List (List Element))
+    → built_from (Some (opened InRow table is_head rows [])) bytes
+    ≡ built_from (Some (opened InTableBody table is_head (rows ++ (row ∷ [])) [])) after
 
 -- in a row of each row group, bytes are no table, if they were faulty
 abbrev pub AddsNoRow : List ℕ → ReadError → Type 0
 AddsNoRow bytes e = (table : Table) (is_head : Bool) (rows : List (List Element)) → AreNone (opened InRow table is_head rows []) bytes e
 
--- behind the old rows, bytes are the rest of a row group of each table, which then has the new ones, and others behind it
+-- behind the old rows of a row group of each table, bytes are the rest of that group, which then has the new rows, and other
+-- bytes behind it
 abbrev pub AddsRows : Bool → List (List Element) → List ℕ → Bool → List (List Element) → List ℕ → Type 0
-AddsRows is_head old bytes is_last new after = (table : Table) → built_from (Some (opened InTableBody table is_head old [])) bytes ≡ built_behind_group is_last after (with_group table is_head new)
+AddsRows is_head old bytes is_last new after = (table : Table)
+    → built_from (Some (opened InTableBody table is_head old [])) bytes
+    ≡ built_behind_group is_last after (with_group table is_head new)
 
 -- behind these rows of a row group of each table, bytes are no table, if they were faulty
 abbrev pub AddsNoRows : Bool → List (List Element) → List ℕ → ReadError → Type 0

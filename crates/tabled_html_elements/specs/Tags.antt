@@ -8,13 +8,18 @@ use Rattle.tabled_html_reading.specs.Tokenizing.Token.{Marked}
 use Rattle.tabled_html_elements.specs.Reading.{HaveNone}
 use Rattle.tabled_html_elements.specs.declared.fault.ReadError.{ReadError}
 
--- bytes from each of some states on have the tokens of the bytes behind them from another state on, or none
+-- from each of some states reading leads to another: the tokens of bytes are those of the bytes that are left, from there on;
+-- where bytes are no table, there are none
 abbrev pub Leads : {A : Type 0} → Result (Bor (List ℕ)) ReadError → List ℕ → (A → State) → (A → State) → Type 0
-Leads {A} result bytes from to = MatchResult result (λ after. (x : A) → tokens_from bytes (from x) ≡ tokens_from after.now (to x)) (λ e. (x : A) → HaveNone bytes (from x) e)
+Leads {A} result bytes from to = MatchResult result
+    (λ after. (x : A) → tokens_from bytes (from x) ≡ tokens_from after.now (to x))
+    (λ e. (x : A) → HaveNone bytes (from x) e)
 
--- the same of the states of each tag and name of its next attribute
+-- the same of the states of each tag and each name of its next attribute
 abbrev pub LeadsNamed : Result (Bor (List ℕ)) ReadError → List ℕ → (Tag → List ℕ → State) → (Tag → List ℕ → State) → Type 0
-LeadsNamed result bytes from to = MatchResult result (λ after. (t : Tag) (name : List ℕ) → tokens_from bytes (from t name) ≡ tokens_from after.now (to t name)) (λ e. (t : Tag) (name : List ℕ) → HaveNone bytes (from t name) e)
+LeadsNamed result bytes from to = MatchResult result
+    (λ after. (t : Tag) (name : List ℕ) → tokens_from bytes (from t name) ≡ tokens_from after.now (to t name))
+    (λ e. (t : Tag) (name : List ℕ) → HaveNone bytes (from t name) e)
 
 -- the tokens of bytes in a tag, before an attribute
 abbrev pub in_tag : List ℕ → Tag → Option (List Token)
@@ -24,6 +29,10 @@ in_tag bytes t = tokens_from bytes (BeforeAttributeName t)
 abbrev pub behind_tag : List ℕ → Tag → Option (List Token)
 behind_tag bytes t = emit (Marked t ∷ []) (tokens_from bytes Data)
 
--- bytes from a state of each tag with the old attributes on have what the bytes behind them have of it with the new ones, or none
-abbrev pub AddsAttributes : Result (Bor (List ℕ)) ReadError → List ℕ → List Attribute → List Attribute → (Tag → State) → (List ℕ → Tag → Option (List Token)) → Type 0
-AddsAttributes result bytes old new from rest = MatchResult result (λ after. (t : Tag) → t.attributes ≡ old → tokens_from bytes (from t) ≡ rest after.now (record t { attributes = new })) (λ e. (t : Tag) → t.attributes ≡ old → HaveNone bytes (from t) e)
+-- from a state of each tag with the old attributes on, the tokens of bytes are what the bytes that are left have of that tag
+-- with the new attributes; where bytes are no table, there are none
+abbrev pub AddsAttributes : Result (Bor (List ℕ)) ReadError → List ℕ → List Attribute → List Attribute
+    → (Tag → State) → (List ℕ → Tag → Option (List Token)) → Type 0
+AddsAttributes result bytes old new from rest = MatchResult result
+    (λ after. (t : Tag) → t.attributes ≡ old → tokens_from bytes (from t) ≡ rest after.now (record t { attributes = new }))
+    (λ e. (t : Tag) → t.attributes ≡ old → HaveNone bytes (from t) e)

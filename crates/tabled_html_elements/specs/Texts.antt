@@ -13,6 +13,8 @@ behind_text text bytes s = emit (characters text) (tokens_from bytes s)
 abbrev pub text_and_tag : List ℕ → Tag → List Token
 text_and_tag text t = characters text ++ (Marked t ∷ [])
 
--- what was to be read is a text alone, or what a value leaves to be read; where bytes are no table, it is none
+-- all that was to be read is a text alone, or what a value leaves to be read; where bytes are no table, it is none
 abbrev pub ReadsText : {T : Type 0} → Result (Option T) ReadError → Option (List Token) → List ℕ → (T → Option (List Token)) → Type 0
-ReadsText result whole text rest = MatchResult result (λ next. MatchOption next (whole ≡ Some (characters text)) (λ r. whole ≡ rest r)) (λ e. IfFaulty e (whole ≡ None))
+ReadsText result whole text rest = MatchResult result
+    (λ next. MatchOption next (whole ≡ Some (characters text)) (λ r. whole ≡ rest r))
+    (λ e. IfFaulty e (whole ≡ None))

@@ -1,14 +1,12 @@
 //! Tags, read.
 
-ghost use Rattle.std.specs.Prelude.{◌≡◌, ◌<◌, ◌≤◌, ◌∷◌, [], IfOk, MatchResult, is_some, length};
+ghost use Rattle.std.specs.Prelude.{◌≡◌, ◌<◌, ◌≤◌, ◌∷◌, [], IfOk, is_some, length};
 ghost use Rattle.tabled_html_reading.specs.Characters.{lowercase};
 ghost use Rattle.tabled_html_reading.specs.Elements.{value_of};
 ghost use Rattle.tabled_html_elements.specs.Outcomes.{Continues, ContinuesEach};
-ghost use Rattle.tabled_html_elements.specs.Reading.{HaveNone};
 ghost use Rattle.tabled_html_elements.specs.Tags.{AddsAttributes, Leads, LeadsNamed, behind_tag, in_tag};
-ghost use Rattle.tabled_html_reading.specs.Tokenizing.{emit, tag, tokens_from, with_attribute};
-ghost use Rattle.tabled_html_reading.specs.Tokenizing.State.{AfterAttributeValue, AttributeName, AttributeValue, BeforeAttributeName, BeforeAttributeValue, Data, TagName, TagOpen};
-ghost use Rattle.tabled_html_reading.specs.Tokenizing.Token.{Marked};
+ghost use Rattle.tabled_html_reading.specs.Tokenizing.{tag, tokens_from, with_attribute};
+ghost use Rattle.tabled_html_reading.specs.Tokenizing.State.{AfterAttributeValue, AttributeName, AttributeValue, BeforeAttributeName, BeforeAttributeValue, TagName, TagOpen};
 
 use crate::characters::{is_blank, is_letter, lowercase};
 use crate::elements::{Attribute, Tag};
@@ -198,7 +196,7 @@ fn read_named<'a>(
 
 /// Reads a tag behind its first bracket.
 pub(crate) fn read_tag<'a>(alloc: Global, bytes: &'a [u8]) -> Result<(Tag, &'a [u8]), ReadError>
-    ensures read { MatchResult result (λ r. tokens_from bytes.now TagOpen ≡ emit (Marked r.0 ∷ []) (tokens_from r.1.now Data)) (HaveNone bytes.now TagOpen) }
+    ensures read { Continues result (tokens_from bytes.now TagOpen) (λ r. behind_tag r.1.now r.0) }
     ensures shorter { IfOk result (λ r. length r.1.now < length bytes.now) }
 {
     let Some((first, behind)) = bytes.split_first() else {
