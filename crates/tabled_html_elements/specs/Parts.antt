@@ -24,15 +24,17 @@ built_behind_group is_last bytes table = built_outside (if is_last then Behind e
 abbrev pub built_behind_tag : Tag → List ℕ → Table → Option Table
 built_behind_tag start bytes table = built_from (built_after (Some (outside_groups InTable table)) (Marked start)) bytes
 
--- behind what is built in each mode between texts, the table of bytes is that of an end, or the one that a value leaves to be
+-- this holds of all that is built in a mode between texts
+abbrev pub EachBetween : (Built → Type 0) → Type 0
+EachBetween P = (b : Built) → IsBetween b.mode → P b
+
+-- behind all that is built in a mode between texts, the table of bytes is that of an end, or the one that a value leaves to be
 -- built; where bytes are no table, there is none
 abbrev pub ContinuesBetween : {T : Type 0} → Result (Option T) ReadError → List ℕ
     → (Built → Option Table) → (T → Built → Option Table) → Type 0
 ContinuesBetween result bytes end rest = MatchResult result
-    (λ next. MatchOption next
-    ((b : Built) → IsBetween b.mode → built_from (Some b) bytes ≡ end b)
-    (λ r. (b : Built) → IsBetween b.mode → built_from (Some b) bytes ≡ rest r b))
-    (λ e. (b : Built) → IsBetween b.mode → AreNone b bytes e)
+    (λ next. MatchOption next (EachBetween (λ b. built_from (Some b) bytes ≡ end b)) (λ r. EachBetween (λ b. built_from (Some b) bytes ≡ rest r b)))
+    (λ e. EachBetween (λ b. AreNone b bytes e))
 
 -- in a cell of each row, bytes are the rest of that cell, which the row then has, and other bytes behind it
 abbrev pub AddsCell : Bool → List Attribute → List ℕ → Element → List ℕ → Type 0
