@@ -58,6 +58,14 @@ pub grows-failed : {T : Type 0} (a : Option (List ℕ)) (h : Kept) (r : Result T
 grows-failed a h (Ok x) xs is failed = cc failed
 grows-failed a h (Err e) xs is failed = record { sent = []; got = Appends-nil a; are = rw is (refl, refl) }
 
+held-are : (failure : Option Error) (all left : List ℕ) → left ≡ all → AreSent failure failure all [] left
+held-are None all left is = sym is
+held-are (Some e) all left is = (refl, refl)
+
+-- bytes are held behind those that were held
+pub grows-held : {a : Option (List ℕ)} (h i : Kept) (bytes : List ℕ) → i.failure ≡ h.failure → i.bytes ≡ h.bytes ++ bytes → GrowsBy a h a i bytes
+grows-held {a} h i bytes same is = record { sent = []; got = Appends-nil a; are = rw same (held-are h.failure (h.bytes ++ bytes) i.bytes is) }
+
 pub no-failure : {T : Type 0} (r : Result T Error) → is_ok r ≡ true → result_err r ≡ None
 no-failure (Ok x) works = refl
 no-failure (Err e) works = cc works

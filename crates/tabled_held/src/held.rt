@@ -3,32 +3,37 @@
 ghost use Rattle.std.specs.Prelude.{◌≡◌, ◌∷◌, [], IfOk, MatchResult, None, Some, decimal, replicate};
 ghost use Rattle.tabled_held.specs.Sent.{GrowsBy};
 
-use crate::digits::{DIGITS, push_reserved_digits};
 use crate::sending::write_all;
 use std::alloc::{AllocError, Global};
 use std::io::{self, Write};
 use std::marker::Model;
 
 /// How many bytes are held at most.
-const ROOM: usize = 16_384;
+pub(crate) const ROOM: usize = 16_384;
 
 /// Bytes that are held for a writer, and how it did so far: once it has failed, it gets no more, and its failure is kept.
 /// Their room never grows.
 ///
 /// Of this project.
+// To put bytes into their places takes less time than to add them to a vector, which asks whether it has to grow.
 #[derive(Drop)]
 pub struct Held {
-    bytes: Vec<u8>,
+    room: Vec<u8>,
+    len: usize,
     outcome: io::Result<()>,
 }
 
 impl Model for Held {
+    ghost use Rattle.std.specs.Prelude.{◌≡◌, ◌≤◌, length, take};
     ghost use Rattle.std.specs.Result.{result_err};
     ghost use Rattle.tabled_held.specs.Sent.{Kept};
+    ghost use Rattle.tabled_held.specs.declared.held.TheConstants.{ROOM};
 
     ghost Value = { Kept };
 
-    ghost view = { λ a. record { bytes = a.bytes.items; failure = result_err a.outcome } };
+    ghost view = { λ a. record { bytes = take a.len a.room.items; failure = result_err a.outcome } };
+
+    ghost invariant = { λ a. (a.len ≤ ROOM) × (length a.room.items ≡ ROOM) };
 }
 
 impl Held {
@@ -39,9 +44,10 @@ impl Held {
         ensures empty { IfOk result (λ held. held.bytes ≡ []) }
         ensures works { IfOk result (λ held. held.failure ≡ None) }
     {
-        let bytes = Vec::with_capacity(alloc, ROOM)?;
+        let room = Vec::from_elem(alloc, 0, ROOM)?;
         Ok(Held {
-            bytes,
+            room,
+            len: 0,
             outcome: Ok(()),
         })
     }
@@ -59,9 +65,9 @@ impl Held {
         ensures empty { self.new.bytes ≡ [] }
     {
         if self.outcome.is_ok() {
-            self.outcome = write_all(writer, &self.bytes);
+            self.outcome = write_all(writer, &self.room[..self.len]);
         }
-        self.bytes.clear();
+        self.len = 0;
     }
 
     /// Sends a byte, or holds it.
@@ -69,11 +75,12 @@ impl Held {
     pub(crate) fn push<W: Write>(&mut self, writer: &mut W, byte: u8)
         ensures { GrowsBy (W.contents writer.old) self.old (W.contents writer.new) self.new (byte ∷ []) }
     {
-        if self.bytes.len() == self.bytes.capacity() {
+        if self.len == ROOM {
             self.send_after(writer, &[byte]);
             return;
         }
-        self.bytes.push_reserved(byte);
+        self.room[self.len] = byte;
+        self.len += 1;
     }
 
     /// Holds bytes, or sends them after what is held, if there is no room.
@@ -81,59 +88,25 @@ impl Held {
     pub(crate) fn write<W: Write>(&mut self, writer: &mut W, bytes: &[u8])
         ensures { GrowsBy (W.contents writer.old) self.old (W.contents writer.new) self.new bytes.now }
     {
-        if bytes.len() > self.bytes.capacity() - self.bytes.len() {
+        if bytes.len() > ROOM - self.len {
             self.send_after(writer, bytes);
             return;
         }
-        // There is room, so this asks for no memory.
-        let _ = self.bytes.extend_from_slice(bytes);
-    }
-
-    /// Holds a number's digits, or sends some of them.
-    pub(crate) fn write_number<W: Write>(&mut self, writer: &mut W, number: usize)
-        ensures { GrowsBy (W.contents writer.old) self.old (W.contents writer.new) self.new (decimal number) }
-    {
-        if self.bytes.capacity() - self.bytes.len() < DIGITS {
-            self.push_digits(writer, number);
-            return;
-        }
-        // Room is asked for once.
-        push_reserved_digits(&mut self.bytes, number);
+        let end = self.len + bytes.len();
+        self.room[self.len..end].copy_from_slice(bytes);
+        self.len = end;
     }
 
     /// Holds a number's digits, or sends them, one after another.
-    fn push_digits<W: Write>(&mut self, writer: &mut W, number: usize)
+    pub(crate) fn write_number<W: Write>(&mut self, writer: &mut W, number: usize)
         ensures { GrowsBy (W.contents writer.old) self.old (W.contents writer.new) self.new (decimal number) }
     {
         if number < 10 {
             self.push(writer, b'0' + number as u8);
             return;
         }
-        self.push_digits(writer, number / 10);
+        self.write_number(writer, number / 10);
         self.push(writer, b'0' + (number % 10) as u8);
-    }
-
-    /// Holds a byte and bytes behind it, or sends them after what is held, if there is no room.
-    #[inline(always)]
-    pub(crate) fn write_behind<W: Write>(&mut self, writer: &mut W, byte: u8, bytes: &[u8])
-        ensures { GrowsBy (W.contents writer.old) self.old (W.contents writer.new) self.new (byte ∷ bytes.now) }
-    {
-        if bytes.len() >= self.bytes.capacity() - self.bytes.len() {
-            self.send_both_after(writer, byte, bytes);
-            return;
-        }
-        // Room is asked for once.
-        self.bytes.push_reserved(byte);
-        let _ = self.bytes.extend_from_slice(bytes);
-    }
-
-    /// Sends a byte and bytes behind it after what is held.
-    #[inline(never)]
-    fn send_both_after<W: Write>(&mut self, writer: &mut W, byte: u8, bytes: &[u8])
-        ensures { GrowsBy (W.contents writer.old) self.old (W.contents writer.new) self.new (byte ∷ bytes.now) }
-    {
-        self.send_after(writer, &[byte]);
-        self.send_after(writer, bytes);
     }
 
     /// Sends bytes after what is held.
@@ -155,14 +128,14 @@ impl Held {
         if count == 0 {
             return;
         }
-        let len = self.bytes.len();
-        if count > self.bytes.capacity() - len {
+        if count > ROOM - self.len {
             for _ in 0..count {
                 self.push(writer, byte);
             }
             return;
         }
-        // There is room here too, so this asks for no memory.
-        let _ = self.bytes.resize(len + count, byte);
+        let end = self.len + count;
+        self.room[self.len..end].fill(byte);
+        self.len = end;
     }
 }

@@ -2,7 +2,6 @@
 #![tactic(auto)]
 
 mod characters;
-mod digits;
 mod held;
 mod pen;
 mod run;

@@ -66,7 +66,8 @@ impl<'w, W: Write> Pen<'w, W> {
     pub fn send_behind(&mut self, byte: u8, bytes: &[u8])
         ensures { Sends W.contents self.old self.new (byte ∷ bytes.now) }
     {
-        self.held.write_behind(self.writer, byte, bytes);
+        self.send_byte(byte);
+        self.send(bytes);
     }
 
     /// Sends a number's digits.

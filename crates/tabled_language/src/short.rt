@@ -1,6 +1,6 @@
 //! Texts that stand in a few bytes.
 
-ghost use Rattle.std.specs.Prelude.{◌≡◌, IfSome};
+ghost use Rattle.std.specs.Prelude.{◌≡◌, ◌≤◌, IfSome, length, take};
 
 use std::marker::Model;
 use std::str;
@@ -37,13 +37,14 @@ impl ShortText {
         if len > 15 {
             return None;
         }
-        let mut bytes = [0; 15];
-        bytes[..len].copy_from_slice(text.as_bytes());
-        Some(ShortText {
-            bytes,
+        // Put together in its place, it is moved in whole words.
+        let mut short = ShortText {
+            bytes: [0; 15],
             len: len as u8,
             _align: [],
-        })
+        };
+        put(&mut short.bytes, text);
+        Some(short)
     }
 
     /// The text.
@@ -53,4 +54,14 @@ impl ShortText {
         // That these bytes are UTF-8 is the invariant, and proved, so they aren't tested again.
         unsafe { str::from_utf8_unchecked(&self.bytes[..self.len as usize]) }
     }
+}
+
+/// Puts a text where bytes begin.
+#[inline(always)]
+fn put(bytes: &mut [u8; 15], text: &str)
+    requires { length text.now ≤ 15 }
+    ensures text { take (length text.now) bytes.new ≡ text.now }
+    ensures len { length bytes.new ≡ 15 }
+{
+    bytes[..text.len()].copy_from_slice(text.as_bytes());
 }

@@ -64,7 +64,7 @@ pub(crate) fn write_word<T: KnownWord, W: Write>(pen: &mut Pen<'_, W>, text: &T)
 {
     match text.known_word() {
         Some(word) => send_word(pen, word),
-        None => write_other_word(pen, text),
+        None => write_escaped(pen, text.text()),
     }
 }
 
@@ -81,17 +81,8 @@ fn send_word<W: Write>(pen: &mut Pen<'_, W>, word: &str)
     pen.send_behind(b'\t', word.as_bytes());
 }
 
-/// Writes a tab, and the word that stands for a text of which no word is known.
-// A call of its own leaves one test of a text's kind to `write_word`.
-#[inline(never)]
-fn write_other_word<T: KnownWord, W: Write>(pen: &mut Pen<'_, W>, text: &T)
-    ensures word { Sends W.contents pen.old pen.new (9 ∷ escaped (T.text_of text.now)) }
-    ensures text { IsUtf8 (T.text_of text.now) }
-{
-    write_escaped(pen, text.text());
-}
-
 /// Writes a tab, and the word that stands for a text whose bytes are looked at first.
+#[inline(always)]
 pub(crate) fn write_escaped<W: Write>(pen: &mut Pen<'_, W>, text: &str)
     ensures { Sends W.contents pen.old pen.new (9 ∷ escaped text.now) }
 {

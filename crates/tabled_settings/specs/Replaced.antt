@@ -6,6 +6,7 @@ use Rattle.tabled_grid.specs.Grid.{Grid}
 use Rattle.tabled_grid.specs.declared.config.entity.Entity.{Entity}
 use Rattle.tabled_options.specs.Writes.{Write}
 use Rattle.tabled_settings.specs.Charsets.{mapped_writes}
+use Rattle.tabled_settings.specs.declared.replace.Replace.{Replace}
 
 -- the parts of a text between the occurrences of another, found from the left; the first bytes may be of one that was found
 abbrev pub parts_behind : List ℕ → ℕ → List ℕ → List (List ℕ)
@@ -25,3 +26,7 @@ replaced_text from to text = join_by (λ part. part) to (parts_between from text
 -- the writes of a replacement on an entity
 abbrev pub replace_writes : List ℕ → List ℕ → Entity → Grid (List ℕ) → List Write
 replace_writes from to e g = mapped_writes (replaced_text from to) g (inside e g.rows g.columns)
+
+-- the writes of the option on an entity
+abbrev pub replacing : Replace → Entity → Grid (List ℕ) → List Write
+replacing replace e = replace_writes replace.from.now replace.to.now e

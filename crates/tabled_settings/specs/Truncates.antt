@@ -6,6 +6,7 @@ use Rattle.tabled_grid.specs.Grid.{Grid}
 use Rattle.tabled_grid.specs.declared.config.entity.Entity.{Entity}
 use Rattle.tabled_options.specs.Writes.{Write}
 use Rattle.tabled_settings.specs.Charsets.{mapped_writes}
+use Rattle.tabled_settings.specs.declared.width.truncate.Truncate.{Truncate}
 use Rattle.tabled_width.specs.Columns.{text_width}
 use Rattle.tabled_width.specs.Pieces.{pieces_in}
 
@@ -39,6 +40,10 @@ truncated n suffix text = join_with_byte 10 (map (truncated_line n suffix) (line
 -- the writes of a cut on an entity
 abbrev pub truncate_writes : ℕ → List ℕ → Entity → Grid (List ℕ) → List Write
 truncate_writes n suffix e g = mapped_writes (truncated n suffix) g (inside e g.rows g.columns)
+
+-- the writes of the option on an entity
+abbrev pub truncating : Truncate → Entity → Grid (List ℕ) → List Write
+truncating truncate e = truncate_writes truncate.width truncate.suffix.now e
 
 -- a text takes as many columns behind any characters as by itself
 abbrev pub AddsColumns : List ℕ → Type 0

@@ -5,7 +5,7 @@ ghost use Rattle.std.specs.String.{string_bytes};
 ghost use Rattle.tabled_grid.specs.Entity.{inside};
 ghost use Rattle.tabled_grid.specs.declared.config.entity.Entity.TheVariants.{Global};
 ghost use Rattle.tabled_options.specs.Writes.{DoesFirstWrites, DoesWrites, FirstWritten, Written};
-ghost use Rattle.tabled_settings.specs.Replaced.{replace_writes, replaced_text};
+ghost use Rattle.tabled_settings.specs.Replaced.{replaced_text, replacing};
 ghost use Rattle.std.proofs.Common.{rules};
 
 use crate::rewrite::{Answers, rewrite};
@@ -43,9 +43,9 @@ where
     R: Records + ExactRecords + PeekableRecords + RecordsMut<String>,
     R::Cell: CellText,
 {
-    ghost does = { λ s e. DoesWrites R.Cell.text_of (replace_writes s.from.now s.to.now e) };
+    ghost does = { λ s e. DoesWrites R.Cell.text_of (replacing s e) };
 
-    ghost leaves = { λ s e. DoesFirstWrites R.Cell.text_of (replace_writes s.from.now s.to.now e) };
+    ghost leaves = { λ s e. DoesFirstWrites R.Cell.text_of (replacing s e) };
 
     ghost never_refused = { λ _ e g _. inside e g.rows g.columns ≡ [] };
 
@@ -72,9 +72,9 @@ where
     R: Records + ExactRecords + PeekableRecords + RecordsMut<String>,
     R::Cell: CellText,
 {
-    ghost does = { λ s. DoesWrites R.Cell.text_of (replace_writes s.from.now s.to.now Global) };
+    ghost does = { λ s. DoesWrites R.Cell.text_of (replacing s Global) };
 
-    ghost leaves = { λ s. DoesFirstWrites R.Cell.text_of (replace_writes s.from.now s.to.now Global) };
+    ghost leaves = { λ s. DoesFirstWrites R.Cell.text_of (replacing s Global) };
 
     ghost never_refused = { λ _ g _. inside Global g.rows g.columns ≡ [] };
 
@@ -107,8 +107,8 @@ where
     R::Cell: CellText,
     requires well { R.is_well_formed records.old }
     ensures well { R.is_well_formed records.new }
-    ensures ok { OnOk result (Written R.Cell.text_of (replace_writes replace.entry.from.now replace.entry.to.now entity) (R.grid records.old) (R.grid records.new)) }
-    ensures err { OnErr result (FirstWritten R.Cell.text_of (replace_writes replace.entry.from.now replace.entry.to.now entity) (R.grid records.old) (R.grid records.new)) }
+    ensures ok { OnOk result (Written R.Cell.text_of (replacing replace.entry entity) (R.grid records.old) (R.grid records.new)) }
+    ensures err { OnErr result (FirstWritten R.Cell.text_of (replacing replace.entry entity) (R.grid records.old) (R.grid records.new)) }
     ensures promised { inside entity (R.grid records.old).rows (R.grid records.old).columns ≡ [] → IsOk result }
 {
     rewrite(alloc, records, entity, replace)

@@ -61,3 +61,19 @@ pub record AreTails (axis : Axis) (e : Entity) (g : Grid (List ℕ)) (m : SpanMa
 pub record StandBelow (m : SpanMap) (row many : ℕ) : Type 0 where
   pub within : many ≤ length (rectangles m)
   pub below : AllByRecursion (λ (e : Rectangle). row < e.first.row) (drop many (rectangles m))
+
+-- of each entity of which a block is a band: the anchors and sizes of all runs that begin in the block, row by row
+abbrev pub AreRunsIn : Axis → Grid (List ℕ) → SpanMap → Rectangle → List Rectangle → Type 0
+AreRunsIn axis g m block sizes = (e : Entity) → IsBand axis e g block → RunsFrom axis e g m block 0 0 sizes
+
+-- likewise, that a run of n cells begins at a place, or none where that is below 2
+abbrev pub IsRunIn : Axis → Grid (List ℕ) → SpanMap → Rectangle → Position → ℕ → Type 0
+IsRunIn axis g m block p many = (e : Entity) → IsBand axis e g block → RunAt axis e g m p many
+
+-- likewise, the lengths of the tails before a place
+abbrev pub AreTailsIn : Axis → Grid (List ℕ) → SpanMap → Rectangle → ℕ → ℕ → List ℕ → Type 0
+AreTailsIn axis g m block i j lengths = (e : Entity) → IsBand axis e g block → AreTails axis e g m block i j lengths
+
+-- an answer is yes where a cell joins another, of each entity that names both
+abbrev pub TellsJoins : Axis → Grid (List ℕ) → SpanMap → Position → Position → Type 0 → Type 0
+TellsJoins axis g m p next told = (e : Entity) → IsNamed e g p → IsNamed e g next → (told ↔ Joins axis e g m p)

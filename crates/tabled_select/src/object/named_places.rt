@@ -58,6 +58,12 @@ impl Iterator for NamedPlaces {
                 return Some(pos);
             }
             let entity = self.entities.next()?;
+            // Most entities of a combination are cells: their one place needs no walk.
+            if let Entity::Cell(row, col) = entity {
+                if row < self.rows && col < self.columns {
+                    return Some(Position { row, col });
+                }
+            }
             enter(&mut self.current, entity, self.rows, self.columns);
         }
     }

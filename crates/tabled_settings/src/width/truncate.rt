@@ -5,7 +5,7 @@ ghost use Rattle.std.specs.String.{string_bytes};
 ghost use Rattle.tabled_grid.specs.Entity.{inside};
 ghost use Rattle.tabled_grid.specs.declared.config.entity.Entity.TheVariants.{Global};
 ghost use Rattle.tabled_options.specs.Writes.{DoesFirstWrites, DoesWrites, FirstWritten, Written};
-ghost use Rattle.tabled_settings.specs.Truncates.{beginning, truncate_writes, truncated, truncated_line};
+ghost use Rattle.tabled_settings.specs.Truncates.{beginning, truncated, truncated_line, truncating};
 ghost use Rattle.std.proofs.Common.{rules};
 
 use crate::rewrite::{Answers, rewrite};
@@ -69,9 +69,9 @@ where
     R: Records + ExactRecords + PeekableRecords + RecordsMut<String>,
     R::Cell: CellText,
 {
-    ghost does = { λ s e. DoesWrites R.Cell.text_of (truncate_writes s.width s.suffix.now e) };
+    ghost does = { λ s e. DoesWrites R.Cell.text_of (truncating s e) };
 
-    ghost leaves = { λ s e. DoesFirstWrites R.Cell.text_of (truncate_writes s.width s.suffix.now e) };
+    ghost leaves = { λ s e. DoesFirstWrites R.Cell.text_of (truncating s e) };
 
     ghost never_refused = { λ _ e g _. inside e g.rows g.columns ≡ [] };
 
@@ -98,9 +98,9 @@ where
     R: Records + ExactRecords + PeekableRecords + RecordsMut<String>,
     R::Cell: CellText,
 {
-    ghost does = { λ s. DoesWrites R.Cell.text_of (truncate_writes s.width s.suffix.now Global) };
+    ghost does = { λ s. DoesWrites R.Cell.text_of (truncating s Global) };
 
-    ghost leaves = { λ s. DoesFirstWrites R.Cell.text_of (truncate_writes s.width s.suffix.now Global) };
+    ghost leaves = { λ s. DoesFirstWrites R.Cell.text_of (truncating s Global) };
 
     ghost never_refused = { λ _ g _. inside Global g.rows g.columns ≡ [] };
 
@@ -133,8 +133,8 @@ where
     R::Cell: CellText,
     requires well { R.is_well_formed records.old }
     ensures well { R.is_well_formed records.new }
-    ensures ok { OnOk result (Written R.Cell.text_of (truncate_writes truncate.entry.width truncate.entry.suffix.now entity) (R.grid records.old) (R.grid records.new)) }
-    ensures err { OnErr result (FirstWritten R.Cell.text_of (truncate_writes truncate.entry.width truncate.entry.suffix.now entity) (R.grid records.old) (R.grid records.new)) }
+    ensures ok { OnOk result (Written R.Cell.text_of (truncating truncate.entry entity) (R.grid records.old) (R.grid records.new)) }
+    ensures err { OnErr result (FirstWritten R.Cell.text_of (truncating truncate.entry entity) (R.grid records.old) (R.grid records.new)) }
     ensures promised { inside entity (R.grid records.old).rows (R.grid records.old).columns ≡ [] → IsOk result }
 {
     rewrite(alloc, records, entity, truncate)

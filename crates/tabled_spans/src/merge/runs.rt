@@ -1,6 +1,6 @@
 //! Runs of equal neighbours along an axis, among the cells of a block.
 
-ghost use Rattle.std.specs.Prelude.{◌≡◌, ◌↔◌, ◌+◌, ◌<◌, ◌≤◌, ◌^◌, IfOk, IsNone, IsTrue, length, true};
+ghost use Rattle.std.specs.Prelude.{◌≡◌, ◌+◌, ◌<◌, ◌≤◌, ◌^◌, IfOk, IsNone, IsTrue, length, true};
 ghost use Rattle.std.specs.Option.{IfSome};
 ghost use Rattle.tabled_grid.specs.Axis.{line_of};
 ghost use Rattle.tabled_grid.specs.Covers.{IsCoverOf};
@@ -8,8 +8,8 @@ ghost use Rattle.tabled_grid.specs.Grid.{IsInside, map_grid};
 ghost use Rattle.tabled_grid.specs.Rectangles.{In};
 ghost use Rattle.tabled_grid.specs.declared.config.entity.Entity.{Entity};
 ghost use Rattle.tabled_grid.specs.declared.config.position.Position.{Position};
-ghost use Rattle.tabled_spans.specs.RunSteps.{AreTails, IsBand, RunAt, RunsFrom, RunsOf, StandBelow};
-ghost use Rattle.tabled_spans.specs.Runs.{IsNamed, Joins, further, is_free};
+ghost use Rattle.tabled_spans.specs.RunSteps.{AreRunsIn, AreTailsIn, IsBand, IsRunIn, RunsOf, StandBelow, TellsJoins};
+ghost use Rattle.tabled_spans.specs.Runs.{further, is_free};
 
 use crate::merge::anchored::{is_anchor, up_to_row};
 use std::alloc::{AllocError, Global};
@@ -51,7 +51,7 @@ where
     requires block { (e : Entity) × IsBand axis e (map_grid R.Cell.text_of (R.grid records.now)) block }
     requires bottom { block.first.row + block.size.height < 2 ^ 64 }
     requires right { block.first.col + block.size.width < 2 ^ 64 }
-    ensures { IfOk result (λ sizes. (e : Entity) → IsBand axis e (map_grid R.Cell.text_of (R.grid records.now)) block → RunsFrom axis e (map_grid R.Cell.text_of (R.grid records.now)) cfg.now block 0 0 sizes.items) }
+    ensures { IfOk result (λ sizes. AreRunsIn axis (map_grid R.Cell.text_of (R.grid records.now)) cfg.now block sizes.items) }
 {
     let cover = CoverMap::of_block(alloc, cfg, block)?;
     runs(alloc, records, cfg, &cover, axis, block)
@@ -77,7 +77,7 @@ where
     requires right { block.first.col + block.size.width < 2 ^ 64 }
     requires covered { cover.now.block ≡ block }
     requires cover { IsCoverOf cfg.now cover.now }
-    ensures { IfOk result (λ sizes. (e : Entity) → IsBand axis e (map_grid R.Cell.text_of (R.grid records.now)) block → RunsFrom axis e (map_grid R.Cell.text_of (R.grid records.now)) cfg.now block 0 0 sizes.items) }
+    ensures { IfOk result (λ sizes. AreRunsIn axis (map_grid R.Cell.text_of (R.grid records.now)) cfg.now block sizes.items) }
 {
     let Rectangle { first, size } = block;
     let mut sizes = Vec::new(alloc);
@@ -124,9 +124,9 @@ where
     requires inside { In block pos }
     requires ahead { StandBelow cfg.now pos.row ahead }
     requires width { length lengths.old ≡ block.size.width }
-    requires lengths { (e : Entity) → IsBand axis e (map_grid R.Cell.text_of (R.grid records.now)) block → AreTails axis e (map_grid R.Cell.text_of (R.grid records.now)) cfg.now block pos.row (pos.col + 1) lengths.old }
-    ensures run { (e : Entity) → IsBand axis e (map_grid R.Cell.text_of (R.grid records.now)) block → RunAt axis e (map_grid R.Cell.text_of (R.grid records.now)) cfg.now pos result }
-    ensures lengths { (e : Entity) → IsBand axis e (map_grid R.Cell.text_of (R.grid records.now)) block → AreTails axis e (map_grid R.Cell.text_of (R.grid records.now)) cfg.now block pos.row pos.col lengths.new }
+    requires lengths { AreTailsIn axis (map_grid R.Cell.text_of (R.grid records.now)) cfg.now block pos.row (pos.col + 1) lengths.old }
+    ensures run { IsRunIn axis (map_grid R.Cell.text_of (R.grid records.now)) cfg.now block pos result }
+    ensures lengths { AreTailsIn axis (map_grid R.Cell.text_of (R.grid records.now)) cfg.now block pos.row pos.col lengths.new }
 {
     let left = block.first.col;
     let many = lengths[pos.col - left];
@@ -166,7 +166,7 @@ where
     requires next { further axis 1 pos ≡ next }
     requires ahead { StandBelow cfg.now next.row ahead }
     requires free { IsTrue free → is_free cfg.now next ≡ true }
-    ensures { (e : Entity) → IsNamed e (map_grid R.Cell.text_of (R.grid records.now)) pos → IsNamed e (map_grid R.Cell.text_of (R.grid records.now)) next → (IsTrue result ↔ Joins axis e (map_grid R.Cell.text_of (R.grid records.now)) cfg.now pos) }
+    ensures { TellsJoins axis (map_grid R.Cell.text_of (R.grid records.now)) cfg.now pos next (IsTrue result) }
 {
     records.get_text(pos) == records.get_text(next)
         && (free || is_free(cfg, cover, ahead, next))
