@@ -64,7 +64,7 @@ pub(crate) fn write_word<T: KnownWord, W: Write>(pen: &mut Pen<'_, W>, text: &T)
 {
     match text.known_word() {
         Some(word) => send_word(pen, word),
-        None => write_escaped(pen, text.text()),
+        None => write_other_word(pen, text),
     }
 }
 
@@ -81,9 +81,19 @@ fn send_word<W: Write>(pen: &mut Pen<'_, W>, word: &str)
     pen.send_behind(b'\t', word.as_bytes());
 }
 
+/// Writes a tab, and the word that stands for a text of which no word is known.
+// A call of its own leaves one test of a text's kind to `write_word`.
+#[inline(never)]
+fn write_other_word<T: KnownWord, W: Write>(pen: &mut Pen<'_, W>, text: &T)
+    ensures word { Sends W.contents pen.old pen.new (9 ∷ escaped (T.text_of text.now)) }
+    ensures text { IsUtf8 (T.text_of text.now) }
+{
+    write_escaped(pen, text.text());
+}
+
 /// Writes a tab, and the word that stands for a text whose bytes are looked at first.
 #[inline(always)]
-pub(crate) fn write_escaped<W: Write>(pen: &mut Pen<'_, W>, text: &str)
+fn write_escaped<W: Write>(pen: &mut Pen<'_, W>, text: &str)
     ensures { Sends W.contents pen.old pen.new (9 ∷ escaped text.now) }
 {
     let bytes = text.as_bytes();
@@ -120,6 +130,7 @@ fn write_escaped_byte<W: Write>(pen: &mut Pen<'_, W>, byte: u8)
 }
 
 /// Says whether a text is a word as it is.
+#[inline(always)]
 fn is_plain(text: &[u8]) -> bool
     ensures { IsTrue result → escaped text.now ≡ text.now }
 {
