@@ -16,8 +16,8 @@ use Rattle.tabled_json.specs.Space.{behind_space}
 use Rattle.tabled_json.specs.Strings.{ContentAt}
 use Rattle.tabled_json.specs.WholeValues.{EndAt, NoEndAt, NoValueAt}
 use Rattle.tabled_json.specs.declared.fault.Fault.TheVariants.{NoArray, NoObject, Unexpected}
-use Rattle.tabled_json.specs.declared.value.Kind.{Kind}
-use Rattle.tabled_json.specs.declared.value.Kind.TheVariants.{Array, Object}
+use Rattle.tabled_json.specs.declared.kind.Kind.{Kind}
+use Rattle.tabled_json.specs.declared.kind.Kind.TheVariants.{Array, Object}
 
 -- ---- strings and scalars
 

@@ -9,7 +9,7 @@ use Rattle.tabled_json.specs.Grammar.{AreLines, AreRows, CellAt, CellTextAt, Ele
 use Rattle.tabled_json.specs.Meanings.{HoldsNoTable, HoldsTable, NoRows, begins_rows, begins_with}
 use Rattle.tabled_json.specs.Records.{NoRecords}
 use Rattle.tabled_json.specs.Tables.{table_of}
-use Rattle.tabled_json.specs.declared.value.Kind.TheVariants.{Array, Object}
+use Rattle.tabled_json.specs.declared.kind.Kind.TheVariants.{Array, Object}
 
 pub one-cell : IsOne CellAt
 one-cell = record { same = λ bytes after other x y a b. text-unique bytes x after y other a.is b.is }

@@ -5,7 +5,7 @@ use Rattle.tabled_json.specs.Faults.{EndFault, ItemsFault, ValueFault}
 use Rattle.tabled_json.specs.Space.{behind_space}
 use Rattle.tabled_json.specs.Grammar.{ValueAt, closing}
 use Rattle.tabled_json.specs.WholeValues.{EndAt, IsInside, IsNext}
-use Rattle.tabled_json.specs.declared.value.Kind.{Kind}
+use Rattle.tabled_json.specs.declared.kind.Kind.{Kind}
 
 -- what is behind an item closes all that is open, the innermost first
 abbrev pub RestAt : List Kind → List ℕ → List ℕ → Type 0

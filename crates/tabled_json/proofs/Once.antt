@@ -13,8 +13,8 @@ use Rattle.tabled_json.specs.Space.{behind_space}
 use Rattle.tabled_json.specs.Strings.{ContentAt, StringAt, escaped_at, is_plain}
 use Rattle.tabled_json.specs.WholeValues.{IsInside}
 use Rattle.tabled_json.specs.declared.fault.Fault.TheVariants.{NoArray, NoObject, Unexpected}
-use Rattle.tabled_json.specs.declared.value.Kind.{Kind}
-use Rattle.tabled_json.specs.declared.value.Kind.TheVariants.{Array, Object}
+use Rattle.tabled_json.specs.declared.kind.Kind.{Kind}
+use Rattle.tabled_json.specs.declared.kind.Kind.TheVariants.{Array, Object}
 
 -- two faults are one
 abbrev Same : Fault → Fault → ℕ → ℕ → Type 0

@@ -5,8 +5,8 @@ use Rattle.tabled_json.proofs.Scalars.{scalar-unique, not-scalar}
 use Rattle.tabled_json.specs.Space.{NotBefore, behind_space}
 use Rattle.tabled_json.specs.Grammar.{KeyAt, ItemAt, ScalarAt, ValueAt, ItemsAt, opening, closing}
 use Rattle.tabled_json.specs.WholeValues.{EndAt, NoEndAt, NoValueAt, OpensNothing}
-use Rattle.tabled_json.specs.declared.value.Kind.{Kind}
-use Rattle.tabled_json.specs.declared.value.Kind.TheVariants.{Array, Object}
+use Rattle.tabled_json.specs.declared.kind.Kind.{Kind}
+use Rattle.tabled_json.specs.declared.kind.Kind.TheVariants.{Array, Object}
 
 pub bracket-no-scalar : (kind : Kind) (inner : List ℕ) → NoneAt ScalarAt (opening kind ∷ inner)
 bracket-no-scalar Array inner = not-scalar 91 inner (λ k. omega arith) (λ k. omega arith) (λ k. omega arith) (λ k. omega arith) refl

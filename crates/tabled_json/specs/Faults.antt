@@ -12,8 +12,8 @@ use Rattle.tabled_json.specs.Strings.{StringAt, escaped_at, is_plain}
 use Rattle.tabled_json.specs.WholeValues.{IsInside, IsNext, OpensNothing}
 use Rattle.tabled_json.specs.declared.fault.Fault.{Fault}
 use Rattle.tabled_json.specs.declared.fault.Fault.TheVariants.{BadEscape, BadNumber, BadUnicode, Closing, Comma, Comment, Control, Ended, NoArray, NoObject, NoWord, NotUtf8, SingleQuote, Unclosed, Unexpected}
-use Rattle.tabled_json.specs.declared.value.Kind.{Kind}
-use Rattle.tabled_json.specs.declared.value.Kind.TheVariants.{Array, Object}
+use Rattle.tabled_json.specs.declared.kind.Kind.{Kind}
+use Rattle.tabled_json.specs.declared.kind.Kind.TheVariants.{Array, Object}
 
 -- a letter
 abbrev pub is_letter : ℕ → Bool

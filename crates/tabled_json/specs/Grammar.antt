@@ -3,8 +3,8 @@ use Rattle.std.specs.Prelude.{◌≡◌, ◌==◌, if◌then◌else◌, ℕ, tru
 use Rattle.tabled_json.specs.Space.{behind_space}
 use Rattle.tabled_json.specs.Numbers.{is_number, numerals, behind_numerals}
 use Rattle.tabled_json.specs.Strings.{StringAt}
-use Rattle.tabled_json.specs.declared.value.Kind.{Kind}
-use Rattle.tabled_json.specs.declared.value.Kind.TheVariants.{Array, Object}
+use Rattle.tabled_json.specs.declared.kind.Kind.{Kind}
+use Rattle.tabled_json.specs.declared.kind.Kind.TheVariants.{Array, Object}
 
 -- the bytes behind a word, if they begin with it
 abbrev pub behind_word : List ℕ → List ℕ → Option (List ℕ)
@@ -129,8 +129,12 @@ pub data IsRecords : List ℕ → List (List (List ℕ × List ℕ)) → Type 0 
 abbrev pub RowAt : List ℕ → List (List ℕ) → List ℕ → Type 0
 RowAt bytes texts after = ListAt CellAt 91 93 bytes texts after
 
--- bytes are rows: one array of them
-pub record AreRows (bytes : List ℕ) (rows : List (List (List ℕ))) : Type 0 where
+-- bytes are one array of elements, up to the end
+pub record IsArrayOf {A : Type 0} (IsElement : List ℕ → A → List ℕ → Type 0) (bytes : List ℕ) (xs : List A) : Type 0 where
   pub after : List ℕ
-  pub is : ListAt RowAt 91 93 (behind_space bytes) rows after
+  pub is : ListAt IsElement 91 93 (behind_space bytes) xs after
   pub ended : behind_space after ≡ []
+
+-- bytes are rows: one array of them
+abbrev pub AreRows : List ℕ → List (List (List ℕ)) → Type 0
+AreRows bytes rows = IsArrayOf RowAt bytes rows

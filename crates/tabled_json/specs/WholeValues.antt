@@ -2,7 +2,7 @@
 use Rattle.std.specs.Prelude.{◌≡◌, ◌⊎◌, ℕ, List, ◌∷◌, length}
 use Rattle.tabled_json.specs.Space.{NotBefore, behind_space}
 use Rattle.tabled_json.specs.Grammar.{ItemAt, ItemsAt, ValueAt, closing, opening}
-use Rattle.tabled_json.specs.declared.value.Kind.{Kind}
+use Rattle.tabled_json.specs.declared.kind.Kind.{Kind}
 use Rattle.tabled_json.specs.declared.value.Begun.{Begun}
 use Rattle.tabled_json.specs.declared.value.Begun.TheVariants.{Whole, Inside}
 use Rattle.tabled_json.specs.declared.value.Ended.{Ended}

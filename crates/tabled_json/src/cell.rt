@@ -1,17 +1,19 @@
 //! Values as the texts of cells, read.
 
-ghost use Rattle.std.specs.Prelude.{◌≡◌, ◌≤◌, IfOk, MatchResult, length};
+ghost use Rattle.std.specs.Prelude.{◌≡◌, ◌≤◌, ℕ, List, IfOk, MatchResult, length};
 ghost use Rattle.tabled_json.specs.Faults.{CellFault, IsNoText};
 ghost use Rattle.tabled_json.specs.Grammar.{CellAt};
 ghost use Rattle.tabled_json.specs.Reading.{Shows};
 ghost use Rattle.tabled_json.specs.Records.{HoldsText};
+ghost use Rattle.tabled_json.specs.Texts.{text_of};
 
 use crate::fault::{Fault, PartError};
+use crate::list::{Element, exact};
 use crate::room::Spare;
 use crate::scalar::scalar;
 use crate::space::behind_byte;
 use crate::value::{behind_value, opened};
-use std::alloc::Global;
+use std::alloc::{AllocError, Global};
 use std::str;
 
 /// Bytes as a text, lent by a source that begins with it, or else a copy. So many bytes are left where it shows.
@@ -54,4 +56,30 @@ pub(crate) fn cell<'a>(
     let after = scalar(bytes, scratch)?;
     let text = text_of(behind_quote(bytes), scratch.as_slice(), spare, bytes.len())?;
     Ok((text, after))
+}
+
+impl<'a> Element<'a> for &'a str {
+    ghost Shown = { List ℕ };
+
+    ghost shown = { text_of };
+
+    ghost is_at = { CellAt };
+
+    ghost is_fault = { CellFault };
+
+    fn read(
+        alloc: Global,
+        bytes: &'a [u8],
+        scratch: &mut Vec<u8>,
+        spare: &mut Spare<'a>,
+    ) -> Result<(Self, &'a [u8]), PartError> {
+        cell(alloc, bytes, scratch, spare)
+    }
+
+    // Most rows have few texts: what would be left over counts, and shrinking leaves holes.
+    fn settle(alloc: Global, texts: Vec<Self>) -> Result<Vec<Self>, AllocError>
+        ensures { IfOk result (λ all. all.items ≡ texts.entry.items) }
+    {
+        exact(alloc, texts.as_slice())
+    }
 }

@@ -7,6 +7,7 @@ mod fault;
 mod form;
 mod keyed;
 mod keys;
+mod kind;
 pub mod laws;
 mod list;
 mod member;

@@ -1,22 +1,22 @@
 //! Records, read.
 
-ghost use Rattle.std.specs.Prelude.{◌<◌, IfErr, IfOk, MatchResult, length};
-ghost use Rattle.tabled_json.specs.Faults.{ElementsFault, IsFault, LinesFault, ListFault, MemberFault, ObjectFault, RecordsFault};
-ghost use Rattle.tabled_json.specs.Grammar.{AreLines, ElementsAt, IsRecords, ListAt, MemberAt, ObjectAt};
-ghost use Rattle.tabled_json.specs.Reading.{Shows};
+ghost use Rattle.std.specs.Prelude.{◌≡◌, ◌<◌, ℕ, List, IfErr, IfOk, MatchResult, length};
+ghost use Rattle.tabled_json.specs.Faults.{IsFault, LinesFault, MemberFault, ObjectFault, RecordsFault};
+ghost use Rattle.tabled_json.specs.Grammar.{AreLines, IsRecords, MemberAt, ObjectAt};
 ghost use Rattle.tabled_json.specs.Places.{AtFault, IsPlace};
+ghost use Rattle.tabled_json.specs.Reading.{Shows};
 ghost use Rattle.tabled_json.specs.Records.{MeansNoRecords, MeansRecords, behind_mark, member_of, members_of, objects_of};
-ghost use Rattle.tabled_json.specs.declared.fault.Fault.TheVariants.{Unexpected};
 
 use crate::cell::{behind_quote, cell, text_of};
-use crate::fault::{Fault, PartError, ReadError, unexpected, wanted};
-use crate::list::{Behind, behind_element, exact};
+use crate::fault::{Fault, PartError, ReadError};
+use crate::kind::Kind;
+use crate::list::{Element, exact, list, whole_array};
 use crate::member::Member;
 use crate::place::{behind_mark, told};
 use crate::room::{Room, Spare};
 use crate::space::{behind_byte, behind_space};
 use crate::value::key;
-use std::alloc::Global;
+use std::alloc::{AllocError, Global};
 
 /// The member at the front, and the bytes behind it.
 fn read_member<'a>(
@@ -34,30 +34,55 @@ fn read_member<'a>(
     Ok((Member { key: name, text }, after))
 }
 
-/// The members from the front on, and the bytes behind their object.
-fn members<'a>(
-    alloc: Global,
-    bytes: &'a [u8],
-    scratch: &mut Vec<u8>,
-    spare: &mut Spare<'a>,
-) -> Result<(Vec<Member<'a>>, &'a [u8]), PartError>
-    ensures read { MatchResult result (λ r. ElementsAt MemberAt 125 bytes.now (members_of r.0) r.1.now) (Shows (ElementsFault MemberAt MemberFault 125 bytes.now)) }
-    ensures shorter { IfOk result (λ r. length r.1.now < length bytes.now) }
-{
-    let mut members = Vec::new(alloc);
-    let mut rest = bytes;
-    'members: loop {
-        let (found, behind) = read_member(alloc, rest, scratch, spare)?;
-        members.push(found)?;
-        let tail = behind_element(125, behind)?;
-        match tail {
-            Behind::Closed(after) => {
-                // Most objects have few members: what would be left over counts, and shrinking leaves holes.
-                let own = exact(alloc, members.as_slice())?;
-                return Ok((own, after));
-            }
-            Behind::Next(next) => rest = next,
-        }
+impl<'a> Element<'a> for Member<'a> {
+    ghost Shown = { List ℕ × List ℕ };
+
+    ghost shown = { member_of };
+
+    ghost is_at = { MemberAt };
+
+    ghost is_fault = { MemberFault };
+
+    fn read(
+        alloc: Global,
+        bytes: &'a [u8],
+        scratch: &mut Vec<u8>,
+        spare: &mut Spare<'a>,
+    ) -> Result<(Self, &'a [u8]), PartError> {
+        read_member(alloc, bytes, scratch, spare)
+    }
+
+    // Most objects have few members: what would be left over counts, and shrinking leaves holes.
+    fn settle(alloc: Global, members: Vec<Self>) -> Result<Vec<Self>, AllocError>
+        ensures { IfOk result (λ all. all.items ≡ members.entry.items) }
+    {
+        exact(alloc, members.as_slice())
+    }
+}
+
+/// An object.
+impl<'a> Element<'a> for Vec<Member<'a>> {
+    ghost Shown = { List (List ℕ × List ℕ) };
+
+    ghost shown = { members_of };
+
+    ghost is_at = { ObjectAt };
+
+    ghost is_fault = { ObjectFault };
+
+    fn read(
+        alloc: Global,
+        bytes: &'a [u8],
+        scratch: &mut Vec<u8>,
+        spare: &mut Spare<'a>,
+    ) -> Result<(Self, &'a [u8]), PartError> {
+        object(alloc, bytes, scratch, spare)
+    }
+
+    fn settle(_alloc: Global, objects: Vec<Self>) -> Result<Vec<Self>, AllocError>
+        ensures { IfOk result (λ all. all.items ≡ objects.entry.items) }
+    {
+        Ok(objects)
     }
 }
 
@@ -71,61 +96,7 @@ fn object<'a>(
     ensures read { MatchResult result (λ r. ObjectAt bytes.now (members_of r.0) r.1.now) (Shows (ObjectFault bytes.now)) }
     ensures shorter { IfOk result (λ r. length r.1.now < length bytes.now) }
 {
-    let Some(inner) = behind_byte(123, bytes) else {
-        return Err(wanted(Fault::NoObject, bytes));
-    };
-    let first = behind_space(inner);
-    if let Some(after) = behind_byte(125, first) {
-        let none = Vec::new(alloc);
-        return Ok((none, after));
-    }
-    let (all, after) = members(alloc, first, scratch, spare)?;
-    Ok((all, after))
-}
-
-/// The objects from the front on, and the bytes behind their array.
-fn objects<'a>(
-    alloc: Global,
-    bytes: &'a [u8],
-    scratch: &mut Vec<u8>,
-    spare: &mut Spare<'a>,
-) -> Result<(Vec<Vec<Member<'a>>>, &'a [u8]), PartError>
-    ensures read { MatchResult result (λ r. ElementsAt ObjectAt 93 bytes.now (objects_of r.0) r.1.now) (Shows (ElementsFault ObjectAt ObjectFault 93 bytes.now)) }
-    ensures shorter { IfOk result (λ r. length r.1.now < length bytes.now) }
-{
-    let mut objects = Vec::new(alloc);
-    let mut rest = bytes;
-    'objects: loop {
-        let (found, behind) = object(alloc, rest, scratch, spare)?;
-        objects.push(found)?;
-        let tail = behind_element(93, behind)?;
-        match tail {
-            Behind::Closed(after) => return Ok((objects, after)),
-            Behind::Next(next) => rest = next,
-        }
-    }
-}
-
-/// The array of objects at the front, and the bytes behind it.
-fn array<'a>(
-    alloc: Global,
-    bytes: &'a [u8],
-    scratch: &mut Vec<u8>,
-    spare: &mut Spare<'a>,
-) -> Result<(Vec<Vec<Member<'a>>>, &'a [u8]), PartError>
-    ensures read { MatchResult result (λ r. ListAt ObjectAt 91 93 bytes.now (objects_of r.0) r.1.now) (Shows (ListFault ObjectAt ObjectFault Unexpected 91 93 bytes.now)) }
-    ensures shorter { IfOk result (λ r. length r.1.now < length bytes.now) }
-{
-    let Some(inner) = behind_byte(91, bytes) else {
-        return Err(unexpected(bytes));
-    };
-    let first = behind_space(inner);
-    if let Some(after) = behind_byte(93, first) {
-        let none = Vec::new(alloc);
-        return Ok((none, after));
-    }
-    let (all, after) = objects(alloc, first, scratch, spare)?;
-    Ok((all, after))
+    list(Kind::Object, Fault::NoObject, alloc, bytes, scratch, spare)
 }
 
 /// Objects one after another, to the end.
@@ -164,12 +135,7 @@ pub(crate) fn records<'a>(
         let all = lines(alloc, bytes, scratch, spare)?;
         return Ok(all);
     };
-    let (list, after) = array(alloc, first, scratch, spare)?;
-    let rest = behind_space(after);
-    if rest.is_empty() {
-        return Ok(list);
-    }
-    Err(unexpected(rest))
+    whole_array(alloc, bytes, scratch, spare)
 }
 
 /// The objects that bytes mean as JSON: those of one array, or one after another with whitespace between them or not.

@@ -10,9 +10,9 @@ ghost use Rattle.tabled_json.specs.Space.{behind_space};
 ghost use Rattle.tabled_json.specs.Tables.{AreListed, keys_of, row_of, table_of, with_members};
 ghost use Rattle.tabled_json.specs.Texts.{rows_of, text_of, texts_of};
 
-use crate::arrays::array_rows;
 use crate::fault::{PartError, ReadError};
 use crate::keys::Keys;
+use crate::list::whole_array;
 use crate::member::Member;
 use crate::place::{behind_mark, told};
 use crate::record::records;
@@ -129,7 +129,7 @@ fn whole_table<'a>(
 {
     let mut scratch = Vec::new(alloc);
     if begins_rows(bytes) {
-        return array_rows(alloc, bytes, &mut scratch, spare);
+        return whole_array(alloc, bytes, &mut scratch, spare);
     }
     let objects = records(alloc, bytes, &mut scratch, spare)?;
     let rows = table(alloc, objects.as_slice())?;

@@ -2,32 +2,17 @@
 
 ghost use Rattle.std.specs.Prelude.{◌≡◌, ◌∷◌, ◌<◌, ◌≤◌, IfOk, IfSome, MatchOption, MatchResult, length};
 ghost use Rattle.tabled_json.specs.Faults.{EndFault, ItemFault, KeyFault, ValueFault};
-ghost use Rattle.tabled_json.specs.Grammar.{ItemAt, KeyAt, ValueAt, closing, opening};
+ghost use Rattle.tabled_json.specs.Grammar.{ItemAt, KeyAt, ValueAt, opening};
 ghost use Rattle.tabled_json.specs.Reading.{Shows};
 ghost use Rattle.tabled_json.specs.WholeValues.{BegunAt, EndedAt, OpensNothing, begun_left, ended_left};
 
 use crate::fault::{PartError, unexpected};
+use crate::kind::{Kind, closing};
+use crate::list::{Behind, behind_element};
 use crate::scalar::scalar;
 use crate::space::{behind_byte, behind_space};
 use crate::string::content;
 use std::alloc::Global;
-
-/// What holds others.
-#[derive(Clone, Copy, Debug, PartialEq, Eq)]
-pub(crate) enum Kind {
-    Array,
-    Object,
-}
-
-/// The byte that closes it.
-fn closing(kind: Kind) -> u8
-    ensures { result ≡ closing kind }
-{
-    match kind {
-        Kind::Array => 93,
-        Kind::Object => 125,
-    }
-}
 
 /// What bytes open, if they do, and the bytes behind the bracket.
 pub(crate) fn opened(bytes: &[u8]) -> Option<(Kind, &[u8])>
@@ -104,16 +89,14 @@ fn end<'a>(kind: Kind, behind: &'a [u8], scratch: &mut Vec<u8>) -> Result<Ended<
     ensures read { MatchResult result (EndedAt kind behind.now) (Shows (EndFault kind behind.now)) }
     ensures shorter { IfOk result (λ ended. ended_left ended < length behind.now) }
 {
-    let bytes = behind_space(behind);
-    if let Some(after) = behind_byte(closing(kind), bytes) {
-        return Ok(Ended::Closed(after));
+    let tail = behind_element(kind, behind)?;
+    match tail {
+        Behind::Closed(after) => Ok(Ended::Closed(after)),
+        Behind::Next(next) => {
+            let value = item(kind, next, scratch)?;
+            Ok(Ended::Next(value))
+        }
     }
-    let Some(comma) = behind_byte(44, bytes) else {
-        return Err(unexpected(bytes));
-    };
-    let next = behind_space(comma);
-    let value = item(kind, next, scratch)?;
-    Ok(Ended::Next(value))
 }
 
 /// The bytes behind the value at the front.

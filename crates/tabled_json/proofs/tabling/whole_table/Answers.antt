@@ -15,9 +15,9 @@ pub returns-then-begins_rows : goal.returns-then-begins_rows
 returns-then-begins_rows c =
     let b = c.args.bytes.now in
     let e : begins_rows (behind_space b) ≡ true = sym c.begins_rows.ensures ∙ c.if-begins_rows.true in
-    match-from c.array_rows.result (λ (rows : Vec (Vec (Bor (List ℕ)))). AreRows b (rows_of rows.items)) (λ (rows : Vec (Vec (Bor (List ℕ)))). HoldsTable b (rows_of rows.items)) (Shows (ArrayFault RowAt RowFault b)) (Shows (TableFault b))
+    match-from c.whole_array.result (λ (rows : Vec (Vec (Bor (List ℕ)))). AreRows b (rows_of rows.items)) (λ (rows : Vec (Vec (Bor (List ℕ)))). HoldsTable b (rows_of rows.items)) (Shows (ArrayFault RowAt RowFault b)) (Shows (TableFault b))
     (λ rows are. HoldsTable.of_rows are)
-    (λ error f. shows-from (ArrayFault RowAt RowFault b) (TableFault b) error (λ fault left g. TableFault.rows e g) f) c.array_rows.ensures
+    (λ error f. shows-from (ArrayFault RowAt RowFault b) (TableFault b) error (λ fault left g. TableFault.rows e g) f) c.whole_array.ensures
 
 pub returns-in_err-objects : goal.returns-in_err-objects
 returns-in_err-objects c =

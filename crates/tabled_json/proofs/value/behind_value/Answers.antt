@@ -3,7 +3,7 @@ use Rattle.tabled_json.proofs.Nesting.{ValueRead, nest-fault, nest-no-end, nest-
 use Rattle.tabled_json.specs.Faults.{EndFault, ValueFault}
 use Rattle.tabled_json.specs.Grammar.{ValueAt}
 use Rattle.tabled_json.specs.WholeValues.{IsNext, IsInside}
-use Rattle.tabled_json.specs.declared.value.Kind.{Kind}
+use Rattle.tabled_json.specs.declared.kind.Kind.{Kind}
 use Rattle.tabled_json.proofs.value.behind_value.Goals as goal
 
 pub returns-in_err-after-clause-read : goal.returns-in_err-after-clause-read

@@ -2,7 +2,7 @@ use Rattle.tabled_json.proofs.Common.{Bor, List, ℕ, Shows, match-from}
 use Rattle.tabled_json.specs.Grammar.{KeyAt, ItemAt}
 use Rattle.tabled_json.specs.Faults.{ItemFault, KeyFault}
 use Rattle.tabled_json.specs.declared.fault.PartError.{PartError}
-use Rattle.tabled_json.specs.declared.value.Kind.TheVariants.{Object}
+use Rattle.tabled_json.specs.declared.kind.Kind.TheVariants.{Object}
 use Rattle.tabled_json.proofs.value.item.Goals as goal
 
 pub returns-in-Object-clause-read : goal.returns-in-Object-clause-read
