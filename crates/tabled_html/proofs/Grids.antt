@@ -22,6 +22,7 @@ use Rattle.tabled_html.specs.Elements.{begun_at, element, element_at, fragment, 
 use Rattle.tabled_html.specs.Laws.{IsFormed, Shows, area_of, element_of, own_area, shown_look}
 use Rattle.tabled_html.specs.Limits.{AreWithinLimits, keep_written}
 use Rattle.tabled_html.specs.Looks.{Look, alignment_in}
+use Rattle.tabled_html.specs.Written.{Written, written_as}
 use Rattle.tabled_grid.specs.Owners.{owner_in}
 use Rattle.tabled_html_reading.proofs.Formed.{body-formed, head-and-body-formed}
 use Rattle.tabled_html_reading.proofs.Parsed.{table-parsed}
@@ -40,6 +41,9 @@ series-same (suc n) f g same = ap₂ (λ xs ys. xs ++ ys) (series-same n f g (λ
 -- ---- the tiling
 
 module _ (g : Grid (List ℕ)) (m : SpanMap) (look : Look) (fits : Fits m g.rows g.columns) where
+  abbrev w : Written
+  w = written_as g m look
+
   well : LieWell g.rows g.columns (rectangles m)
   well = fits-well m g.rows g.columns fits
 
@@ -68,7 +72,7 @@ module _ (g : Grid (List ℕ)) (m : SpanMap) (look : Look) (fits : Fits m g.rows
 
   -- ---- the written rows
 
-  at-place : (i j : ℕ) → elements_at (own_area m) (element_of g look) i j ≡ begun_at g m look (place i j)
+  at-place : (i j : ℕ) → elements_at (own_area m) (element_of g look) i j ≡ begun_at w (place i j)
   at-place i j = of-place (is_hidden m (place i j)) refl
     where
       o : Rectangle
@@ -78,7 +82,7 @@ module _ (g : Grid (List ℕ)) (m : SpanMap) (look : Look) (fits : Fits m g.rows
       here a b t = grind (arith, nat_tests)
 
       of-hidden : is_hidden m (place i j) ≡ true → elements_at (own_area m) (element_of g look) i j ≡ []
-      of-hidden hidden = cond-false _ _ _ (false_from_ne_true (begins (own_area m) j i) (λ t. (let parts = and_parts _ _ t in hidden-apart m g.rows g.columns fits (place i j) hidden (ap₂ place (here o.first.row i parts.1) (here o.first.col j parts.0)))))
+      of-hidden hidden = cond-false _ _ _ (false_from_ne_true (begins (own_area m) j i) (λ t. (let parts = and_parts _ _ t in hidden-apart {w = w} refl fits (place i j) hidden (ap₂ place (here o.first.row i parts.1) (here o.first.col j parts.0)))))
 
       of-seen : is_hidden m (place i j) ≡ false → elements_at (own_area m) (element_of g look) i j ≡ element_at g look (place i j) (size_at m (place i j)) ∷ []
       of-seen seen =
@@ -91,13 +95,13 @@ module _ (g : Grid (List ℕ)) (m : SpanMap) (look : Look) (fits : Fits m g.rows
       of-place true hidden = of-hidden hidden
       of-place false seen = of-seen seen
 
-  rows-are : (first count : ℕ) → rows_between g.columns (own_area m) (element_of g look) first count ≡ rows_of g m look first count
+  rows-are : (first count : ℕ) → rows_between g.columns (own_area m) (element_of g look) first count ≡ rows_of w first count
   rows-are first count = series-same count _ _ (λ k low. ap (λ cells. cells ∷ []) (series-same g.columns _ _ (λ j far. at-place (first + k) j)))
 
-  pub body-is : as_body g.columns g.rows (own_area m) (element_of g look) ≡ group false (rows_of g m look 0 g.rows) ∷ []
+  pub body-is : as_body g.columns g.rows (own_area m) (element_of g look) ≡ group false (rows_of w 0 g.rows) ∷ []
   body-is = ap (λ rows. group false rows ∷ []) (rows-are 0 g.rows)
 
-  pub head-is : as_head_and_body g.columns g.rows (own_area m) (element_of g look) look.header ≡ group true (rows_of g m look 0 look.header) ∷ group false (rows_of g m look look.header (g.rows - look.header)) ∷ []
+  pub head-is : as_head_and_body g.columns g.rows (own_area m) (element_of g look) look.header ≡ group true (rows_of w 0 look.header) ∷ group false (rows_of w look.header (g.rows - look.header)) ∷ []
   head-is = ap₂ (λ head rows. group true head ∷ group false rows ∷ []) (rows-are 0 look.header) (rows-are look.header (g.rows - look.header))
 
   -- where no merged cell crosses the end of the header, the owners of its places end in it
@@ -114,13 +118,13 @@ module _ (g : Grid (List ℕ)) (m : SpanMap) (look : Look) (fits : Fits m g.rows
       of-end member inside (inr most) = most
       of-end member inside (inl over) = absurd (false≢true (sym free ∙ any-from (crosses_line Rows look.header) o (rectangles m) member (and_from _ _ (lt-ltb _ _ (omega (arith, inside.top, k))) (lt-ltb _ _ over))))
 
-  pub formed : IsEmptyWithoutRows g → AreWithinLimits m → IsFormed g m look (forming_a_table (groups_of g m look))
+  pub formed : IsEmptyWithoutRows g → AreWithinLimits m → IsFormed g m look (forming_a_table (groups_of w))
   formed empty limits = of-head (has_head g.rows m look.header) refl
     where
       as-grid : (groups : List Group) → IsTiled g.columns g.rows (own_area m) (element_of g look) (forming_a_table groups) → IsFormed g m look (forming_a_table groups)
       as-grid groups is = record { columns = is.across; rows = is.down; apart = is.apart; slots = is.slots; outside = is.outside; anchors = is.anchors }
 
-      of-head : (b : Bool) → has_head g.rows m look.header ≡ b → IsFormed g m look (forming_a_table (cond b (group true (rows_of g m look 0 look.header) ∷ group false (rows_of g m look look.header (g.rows - look.header)) ∷ []) (group false (rows_of g m look 0 g.rows) ∷ [])))
+      of-head : (b : Bool) → has_head g.rows m look.header ≡ b → IsFormed g m look (forming_a_table (cond b (group true (rows_of w 0 look.header) ∷ group false (rows_of w look.header (g.rows - look.header)) ∷ []) (group false (rows_of w 0 g.rows) ∷ [])))
       of-head true has =
           let parts = and_parts _ _ has in
           let free : is_crossed Rows look.header m ≡ false = not-so (is_crossed Rows look.header m) parts.1 in
@@ -144,28 +148,31 @@ text-shown g p = ap (λ (o : Option (List ℕ)). unwrap_or o []) (cell_at-map_gr
     of-cell None = refl
     of-cell (Some text) = refl
 
-module _ (g : Grid (List ℕ)) (m : SpanMap) (look : Look) where
-  begun-shown : (p : Position) → map shown_element (begun_at g m look p) ≡ begun_at (map_grid shown g) m look p
-  begun-shown p = of-place (is_hidden m p)
+module _ (w : Written) where
+  abbrev seen : Written
+  seen = record w { texts = map_grid shown w.texts }
+
+  begun-shown : (p : Position) → map shown_element (begun_at w p) ≡ begun_at seen p
+  begun-shown p = of-place (is_hidden w.merged p)
     where
-      of-place : (b : Bool) → map shown_element (cond b [] (element_at g look p (size_at m p) ∷ [])) ≡ cond b [] (element_at (map_grid shown g) look p (size_at m p) ∷ [])
+      of-place : (b : Bool) → map shown_element (cond b [] (element_at w.texts w.look p (size_at w.merged p) ∷ [])) ≡ cond b [] (element_at seen.texts w.look p (size_at w.merged p) ∷ [])
       of-place true = refl
-      of-place false = ap (λ text. element (nat_lt p.row look.header) (alignment_in look.alignments p.col) (size_at m p) text ∷ []) (sym (text-shown g p))
+      of-place false = ap (λ text. element (nat_lt p.row w.look.header) (alignment_in w.look.alignments p.col) (size_at w.merged p) text ∷ []) (sym (text-shown w.texts p))
 
-  rows-shown : (first count : ℕ) → map (map shown_element) (rows_of g m look first count) ≡ rows_of (map_grid shown g) m look first count
+  rows-shown : (first count : ℕ) → map (map shown_element) (rows_of w first count) ≡ rows_of seen first count
   rows-shown first count =
-      map-series (map shown_element) count (λ k. row_of g m look (first + k) ∷ [])
-      ∙ series-same count _ _ (λ k low. ap (λ cells. cells ∷ []) (map-series shown_element g.columns (λ j. begun_at g m look (place (first + k) j)) ∙ series-same g.columns _ _ (λ j far. begun-shown (place (first + k) j))))
+      map-series (map shown_element) count (λ k. row_of w (first + k) ∷ [])
+      ∙ series-same count _ _ (λ k low. ap (λ cells. cells ∷ []) (map-series shown_element w.texts.columns (λ j. begun_at w (place (first + k) j)) ∙ series-same w.texts.columns _ _ (λ j far. begun-shown (place (first + k) j))))
 
-  groups-shown : map shown_group (groups_of g m look) ≡ groups_of (map_grid shown g) m look
-  groups-shown = of-head (has_head g.rows m look.header)
+  groups-shown : map shown_group (groups_of w) ≡ groups_of seen
+  groups-shown = of-head (has_head w.texts.rows w.merged w.look.header)
     where
-      of-head : (b : Bool) → map shown_group (cond b (group true (rows_of g m look 0 look.header) ∷ group false (rows_of g m look look.header (g.rows - look.header)) ∷ []) (group false (rows_of g m look 0 g.rows) ∷ [])) ≡ cond b (group true (rows_of (map_grid shown g) m look 0 look.header) ∷ group false (rows_of (map_grid shown g) m look look.header (g.rows - look.header)) ∷ []) (group false (rows_of (map_grid shown g) m look 0 g.rows) ∷ [])
-      of-head true = ap₂ (λ head rows. group true head ∷ group false rows ∷ []) (rows-shown 0 look.header) (rows-shown look.header (g.rows - look.header))
-      of-head false = ap (λ rows. group false rows ∷ []) (rows-shown 0 g.rows)
+      of-head : (b : Bool) → map shown_group (cond b (group true (rows_of w 0 w.look.header) ∷ group false (rows_of w w.look.header (w.texts.rows - w.look.header)) ∷ []) (group false (rows_of w 0 w.texts.rows) ∷ [])) ≡ cond b (group true (rows_of seen 0 w.look.header) ∷ group false (rows_of seen w.look.header (w.texts.rows - w.look.header)) ∷ []) (group false (rows_of seen 0 w.texts.rows) ∷ [])
+      of-head true = ap₂ (λ head rows. group true head ∷ group false rows ∷ []) (rows-shown 0 w.look.header) (rows-shown w.look.header (w.texts.rows - w.look.header))
+      of-head false = ap (λ rows. group false rows ∷ []) (rows-shown 0 w.texts.rows)
 
-  table-shown : shown_table (table g m look) ≡ table (map_grid shown g) m (shown_look look)
-  table-shown = ap (λ groups. record (table (map_grid shown g) m (shown_look look)) { groups = groups }) groups-shown
+  table-shown : shown_table (table w) ≡ table (record seen { look = shown_look w.look })
+  table-shown = ap (λ groups. record (table (record seen { look = shown_look w.look })) { groups = groups }) groups-shown
 
 -- ---- the attributes are plain, and numbers
 
@@ -173,38 +180,38 @@ all-series : {A : Type 0} (P : A → Type 0) (n : ℕ) (h : ℕ → List A) → 
 all-series P zero h all = tt
 all-series P (suc n) h all = all-append P (series n h) (h n) (all-series P n h all) (all n)
 
-module _ (m : SpanMap) (limits : AreWithinLimits m) (look : Look) where
-  size-few : (p : Position) → ((size_at m p).width ≤ 1000) × ((size_at m p).height ≤ 65534)
-  size-few p = of-size (get m p) refl
+module _ (w : Written) (limits : AreWithinLimits w.merged) where
+  size-few : (p : Position) → ((size_at w.merged p).width ≤ 1000) × ((size_at w.merged p).height ≤ 65534)
+  size-few p = of-size (get w.merged p) refl
     where
-      of-size : (o : Option Size) → get m p ≡ o → ((size_at m p).width ≤ 1000) × ((size_at m p).height ≤ 65534)
-      of-size None e = let is = size_at-none m p e in (omega (arith, ap (λ (s : Size). s.width) is), omega (arith, ap (λ (s : Size). s.height) is))
-      of-size (Some size) e = let is = size_at-some m p size e in let within = limits.each (rectangle p size) e in (omega (arith, ap (λ (s : Size). s.width) is, within.width), omega (arith, ap (λ (s : Size). s.height) is, within.height))
+      of-size : (o : Option Size) → get w.merged p ≡ o → ((size_at w.merged p).width ≤ 1000) × ((size_at w.merged p).height ≤ 65534)
+      of-size None e = let is = size_at-none w.merged p e in (omega (arith, ap (λ (s : Size). s.width) is), omega (arith, ap (λ (s : Size). s.height) is))
+      of-size (Some size) e = let is = size_at-some w.merged p size e in let within = limits.each (rectangle p size) e in (omega (arith, ap (λ (s : Size). s.width) is, within.width), omega (arith, ap (λ (s : Size). s.height) is, within.height))
 
-  begun-writable : (g : Grid (List ℕ)) (p : Position) → AllByRecursion IsWritable (begun_at g m look p)
-  begun-writable g p = of-place (is_hidden m p)
+  begun-writable : (p : Position) → AllByRecursion IsWritable (begun_at w p)
+  begun-writable p = of-place (is_hidden w.merged p)
     where
-      of-place : (b : Bool) → AllByRecursion IsWritable (cond b [] (element_at g look p (size_at m p) ∷ []))
+      of-place : (b : Bool) → AllByRecursion IsWritable (cond b [] (element_at w.texts w.look p (size_at w.merged p) ∷ []))
       of-place true = tt
-      of-place false = let few = size-few p in (record { plain = cell-plain _ _ (size_at m p) few.0 few.1; apart = cell-apart _ _ (size_at m p); spans = cell-spans _ _ (size_at m p) few.0 few.1 }, tt)
+      of-place false = let few = size-few p in (record { plain = cell-plain _ _ (size_at w.merged p) few.0 few.1; apart = cell-apart _ _ (size_at w.merged p); spans = cell-spans _ _ (size_at w.merged p) few.0 few.1 }, tt)
 
-  rows-writable : (g : Grid (List ℕ)) (first count : ℕ) → AreWritable (rows_of g m look first count)
-  rows-writable g first count = all-series (AllByRecursion IsWritable) count (λ k. row_of g m look (first + k) ∷ []) (λ k. (all-series IsWritable g.columns (λ j. begun_at g m look (place (first + k) j)) (λ j. begun-writable g (place (first + k) j)), tt))
+  rows-writable : (first count : ℕ) → AreWritable (rows_of w first count)
+  rows-writable first count = all-series (AllByRecursion IsWritable) count (λ k. row_of w (first + k) ∷ []) (λ k. (all-series IsWritable w.texts.columns (λ j. begun_at w (place (first + k) j)) (λ j. begun-writable (place (first + k) j)), tt))
 
-  table-writable : (g : Grid (List ℕ)) → IsTableWritable (table g m look)
-  table-writable g = record { attributes = class-plain look.class; apart = class-apart look.class; groups = of-head (has_head g.rows m look.header) }
+  table-writable : IsTableWritable (table w)
+  table-writable = record { attributes = class-plain w.look.class; apart = class-apart w.look.class; groups = of-head (has_head w.texts.rows w.merged w.look.header) }
     where
-      of-head : (b : Bool) → AllByRecursion (λ (x : Group). AreWritable x.rows) (cond b (group true (rows_of g m look 0 look.header) ∷ group false (rows_of g m look look.header (g.rows - look.header)) ∷ []) (group false (rows_of g m look 0 g.rows) ∷ []))
-      of-head true = (rows-writable g 0 look.header, (rows-writable g look.header (g.rows - look.header), tt))
-      of-head false = (rows-writable g 0 g.rows, tt)
+      of-head : (b : Bool) → AllByRecursion (λ (x : Group). AreWritable x.rows) (cond b (group true (rows_of w 0 w.look.header) ∷ group false (rows_of w w.look.header (w.texts.rows - w.look.header)) ∷ []) (group false (rows_of w 0 w.texts.rows) ∷ []))
+      of-head true = (rows-writable 0 w.look.header, (rows-writable w.look.header (w.texts.rows - w.look.header), tt))
+      of-head false = (rows-writable 0 w.texts.rows, tt)
 
 -- what is read of the bytes of the table forms the grid of what is shown: the merged cells that are written fit, and are
 -- within the limits
 pub html-shows : (g : Grid (List ℕ)) (m : SpanMap) (look : Look) → IsEmptyWithoutRows g → Shows g (keep_written g.rows g.columns m) look (fragment g m look)
 html-shows g m look empty =
-    let kept = keep_written g.rows g.columns m in
+    let w : Written = written_as g (keep_written g.rows g.columns m) look in
     let limits = written-within g.rows g.columns m in
     record {
-      read = table-parsed (table g kept look) (table-writable kept limits look g) ∙ ap Some (table-shown g kept look);
-      formed = formed (map_grid shown g) kept look (written-fits g.rows g.columns m) empty limits;
+      read = table-parsed (table w) (table-writable w limits) ∙ ap Some (table-shown w);
+      formed = formed (map_grid shown g) w.merged look (written-fits g.rows g.columns m) empty limits;
     }

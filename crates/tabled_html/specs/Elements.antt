@@ -12,6 +12,7 @@ use Rattle.tabled_grid.specs.declared.config.size.Size.{Size}
 use Rattle.tabled_grid.specs.declared.records.axis.Axis.TheVariants.{Rows}
 use Rattle.tabled_html.specs.Limits.{keep_written}
 use Rattle.tabled_html.specs.Looks.{Look, alignment_in}
+use Rattle.tabled_html.specs.Written.{Written, written_as}
 use Rattle.tabled_html.specs.declared.alignment.Alignment.{Alignment}
 use Rattle.tabled_html.specs.declared.alignment.Alignment.TheVariants.{Center, Left, Right}
 use Rattle.tabled_html_reading.specs.Areas.{series}
@@ -63,20 +64,20 @@ abbrev pub element_at : Grid (List ℕ) → Look → Position → Size → Eleme
 element_at g look p size = element (nat_lt p.row look.header) (alignment_in look.alignments p.col) size (text_of_cell g p)
 
 -- the element of the cell that begins at a place: none where another's rectangle holds it
-abbrev pub begun_at : Grid (List ℕ) → SpanMap → Look → Position → List Element
-begun_at g m look p = if is_hidden m p then [] else element_at g look p (size_at m p) ∷ []
+abbrev pub begun_at : Written → Position → List Element
+begun_at w p = if is_hidden w.merged p then [] else element_at w.texts w.look p (size_at w.merged p) ∷ []
+
+-- the elements of the first cells of row i
+abbrev pub cells_of : Written → ℕ → ℕ → List Element
+cells_of w i count = series count (λ j. begun_at w (place i j))
 
 -- the elements of row i
-abbrev pub row_of : Grid (List ℕ) → SpanMap → Look → ℕ → List Element
-row_of g m look i = series g.columns (λ j. begun_at g m look (place i j))
+abbrev pub row_of : Written → ℕ → List Element
+row_of w i = cells_of w i w.texts.columns
 
 -- the elements of some rows, from one on
-abbrev pub rows_of : Grid (List ℕ) → SpanMap → Look → ℕ → ℕ → List (List Element)
-rows_of g m look first count = series count (λ k. row_of g m look (first + k) ∷ [])
-
--- the same of cells that have texts
-abbrev pub rows_of_cells : {A : Type 0} → (A → List ℕ) → Grid A → SpanMap → Look → ℕ → ℕ → List (List Element)
-rows_of_cells text_of g m look first count = rows_of (map_grid text_of g) m look first count
+abbrev pub rows_of : Written → ℕ → ℕ → List (List Element)
+rows_of w first count = series count (λ k. row_of w (first + k) ∷ [])
 
 -- ---- the table
 
@@ -89,11 +90,11 @@ abbrev pub group : Bool → List (List Element) → Group
 group is_head rows = record { is_head = is_head; rows = rows }
 
 -- the row groups of a table: its head, if it has one, and its body
-abbrev pub groups_of : Grid (List ℕ) → SpanMap → Look → List Group
-groups_of g m look =
-    if has_head g.rows m look.header
-    then group true (rows_of g m look 0 look.header) ∷ group false (rows_of g m look look.header (g.rows - look.header)) ∷ []
-    else group false (rows_of g m look 0 g.rows) ∷ []
+abbrev pub groups_of : Written → List Group
+groups_of w =
+    if has_head w.texts.rows w.merged w.look.header
+    then group true (rows_of w 0 w.look.header) ∷ group false (rows_of w w.look.header (w.texts.rows - w.look.header)) ∷ []
+    else group false (rows_of w 0 w.texts.rows) ∷ []
 
 -- the class of a table, where it stands for itself between quotes
 abbrev pub class_attribute : Option (List ℕ) → List Attribute
@@ -101,12 +102,12 @@ class_attribute None = []
 class_attribute (Some class) = if list_all is_plain class then record { name = codes "class"; value = class } ∷ [] else []
 
 -- the element of a table
-abbrev pub table : Grid (List ℕ) → SpanMap → Look → Table
-table g m look = record { attributes = class_attribute look.class; caption = look.caption; groups = groups_of g m look }
+abbrev pub table : Written → Table
+table w = record { attributes = class_attribute w.look.class; caption = w.look.caption; groups = groups_of w }
 
 -- its bytes, with those of its merged cells that fit it and that HTML can say
 abbrev pub fragment : Grid (List ℕ) → SpanMap → Look → List ℕ
-fragment g m look = table_bytes (table g (keep_written g.rows g.columns m) look)
+fragment g m look = table_bytes (table (written_as g (keep_written g.rows g.columns m) look))
 
 -- what stands before the table of a whole page
 abbrev pub page_start : List ℕ

@@ -9,6 +9,7 @@ use Rattle.tabled_html_reading.specs.Building.{parsed}
 use Rattle.tabled_html.specs.Elements.{element_at, fragment, groups_of, table}
 use Rattle.tabled_html.specs.Limits.{keep_written}
 use Rattle.tabled_html.specs.Looks.{Look}
+use Rattle.tabled_html.specs.Written.{written_as}
 use Rattle.std.specs.Option.{option_map}
 use Rattle.tabled_html_reading.specs.Elements.{Element}
 use Rattle.tabled_html_reading.specs.Escaping.{shown}
@@ -55,7 +56,7 @@ pub record IsFormed (g : Grid (List ℕ)) (m : SpanMap) (look : Look) (f : Formi
 
 -- the table that is formed of the row groups is the grid
 abbrev pub FormsTheGrid : Grid (List ℕ) → SpanMap → Look → Type 0
-FormsTheGrid g m look = IsFormed g m look (forming_a_table (groups_of g m look))
+FormsTheGrid g m look = IsFormed g m look (forming_a_table (groups_of (written_as g m look)))
 
 -- the look with its caption as it is shown
 abbrev pub shown_look : Look → Look
@@ -63,8 +64,8 @@ shown_look look = record look { caption = option_map shown look.caption }
 
 -- bytes are read as the table, of whose elements the grid is formed, with all texts as they are shown
 pub record Shows (g : Grid (List ℕ)) (m : SpanMap) (look : Look) (bytes : List ℕ) : Type 0 where
-  pub read : parsed bytes ≡ Some (table (map_grid shown g) m (shown_look look))
-  pub formed : IsFormed (map_grid shown g) m look (forming_a_table (groups_of (map_grid shown g) m look))
+  pub read : parsed bytes ≡ Some (table (written_as (map_grid shown g) m (shown_look look)))
+  pub formed : IsFormed (map_grid shown g) m look (forming_a_table (groups_of (written_as (map_grid shown g) m look)))
 
 -- if a grid without rows has no columns, the bytes of its table show it, by its cells' texts and with the merged cells that are written
 abbrev pub ShowsCells : {A : Type 0} → (A → List ℕ) → Grid A → SpanMap → Look → Type 0

@@ -3,3 +3,4 @@ pub mod Ends
 pub mod Laws
 pub mod Limits
 pub mod Looks
+pub mod Written

@@ -5,8 +5,6 @@ ghost use Rattle.std.specs.Io.KnownBytes.{Appends};
 ghost use Rattle.std.specs.List.{flat_map, list_all};
 ghost use Rattle.std.specs.Option.{option_map};
 ghost use Rattle.std.specs.Prelude.{◌≡◌, Err, List, OnOk, Some, ℕ};
-ghost use Rattle.tabled_grid.specs.Fitting.{Fits};
-ghost use Rattle.tabled_grid.specs.Grid.{map_grid};
 ghost use Rattle.tabled_held.specs.Pens.{Sends};
 ghost use Rattle.tabled_held.specs.Sent.{IsCutShort};
 ghost use Rattle.tabled_html.specs.Elements.{class_attribute, framed, html_of, page_end, page_start, table};
@@ -21,7 +19,7 @@ use crate::cells::write_text;
 use crate::fault::WriteError;
 use crate::limits::spans_written;
 use crate::page::Page;
-use crate::rows::write_groups;
+use crate::sheet::Sheet;
 use std::alloc::Global;
 use std::io::Write;
 use tabled_grid::config::SpannedConfig;
@@ -68,31 +66,6 @@ fn write_caption<W: Write>(pen: &mut Pen<'_, W>, caption: Option<&str>)
     }
 }
 
-/// Writes a table.
-fn write_table<W, R>(
-    pen: &mut Pen<'_, W>,
-    records: &R,
-    page: &Page<'_>,
-    cfg: &SpannedConfig,
-    ends: &mut [usize],
-)
-where
-    W: Write,
-    R: Records + ExactRecords + PeekableRecords,
-    R::Cell: CellText,
-    requires well { R.is_well_formed records.now }
-    requires fits { Fits cfg.now (R.grid records.now).rows (R.grid records.now).columns }
-    requires ends { AreEnds cfg.now (R.grid records.now).rows (R.grid records.now).columns 0 0 ends.old }
-    ensures { Sends W.contents pen.old pen.new (table_bytes (table (map_grid R.Cell.text_of (R.grid records.now)) cfg.now page.now)) }
-{
-    pen.send(b"<table");
-    write_class(pen, page.class_text());
-    pen.send(b">\n");
-    write_caption(pen, page.caption_text());
-    write_groups(pen, records, page, cfg, ends);
-    pen.send(b"</table>\n");
-}
-
 /// Writes what stands before the table of a whole page.
 fn write_page_start<W: Write>(pen: &mut Pen<'_, W>)
     ensures { Sends W.contents pen.old pen.new page_start }
@@ -109,30 +82,37 @@ fn write_page_end<W: Write>(pen: &mut Pen<'_, W>)
     pen.send(b"</body>\n</html>\n");
 }
 
-/// Writes a table, or the page that it stands in.
-fn write_page<W, R>(
-    pen: &mut Pen<'_, W>,
-    records: &R,
-    page: &Page<'_>,
-    cfg: &SpannedConfig,
-    ends: &mut [usize],
-)
+impl<'a, R> Sheet<'a, R>
 where
-    W: Write,
     R: Records + ExactRecords + PeekableRecords,
     R::Cell: CellText,
-    requires well { R.is_well_formed records.now }
-    requires fits { Fits cfg.now (R.grid records.now).rows (R.grid records.now).columns }
-    requires ends { AreEnds cfg.now (R.grid records.now).rows (R.grid records.now).columns 0 0 ends.old }
-    ensures { Sends W.contents pen.old pen.new (framed page.now.is_whole (table_bytes (table (map_grid R.Cell.text_of (R.grid records.now)) cfg.now page.now))) }
 {
-    if page.is_whole() {
-        write_page_start(pen);
-        write_table(pen, records, page, cfg, ends);
-        write_page_end(pen);
-        return;
+    /// Writes a table.
+    fn write_table<W: Write>(&self, pen: &mut Pen<'_, W>, ends: &mut [usize])
+        requires { AreEnds self.now 0 0 ends.old }
+        ensures { Sends W.contents pen.old pen.new (table_bytes (table self.now)) }
+    {
+        pen.send(b"<table");
+        write_class(pen, self.page.class_text());
+        pen.send(b">\n");
+        write_caption(pen, self.page.caption_text());
+        self.write_groups(pen, ends);
+        pen.send(b"</table>\n");
     }
-    write_table(pen, records, page, cfg, ends);
+
+    /// Writes a table, or the page that it stands in.
+    fn write_page<W: Write>(&self, pen: &mut Pen<'_, W>, ends: &mut [usize])
+        requires { AreEnds self.now 0 0 ends.old }
+        ensures { Sends W.contents pen.old pen.new (framed self.now.look.is_whole (table_bytes (table self.now))) }
+    {
+        if self.page.is_whole() {
+            write_page_start(pen);
+            self.write_table(pen, ends);
+            write_page_end(pen);
+            return;
+        }
+        self.write_table(pen, ends);
+    }
 }
 
 /// Writes a table (`r x c`) as HTML: a `table` with a `tr` for each row and a `td` for each cell where it begins, with
@@ -200,7 +180,12 @@ where
     let mut ends = vec![in alloc; 0; columns]?;
     let held = Held::new(alloc)?;
     let mut pen = Pen::new(writer, held);
-    write_page(&mut pen, records, page, &spans, &mut ends);
+    let sheet = Sheet {
+        records,
+        spans,
+        page,
+    };
+    sheet.write_page(&mut pen, &mut ends);
     let (written, outcome) = pen.finish();
     // No effect: the proof reads here what the writer got.
     let _ = &*written;
