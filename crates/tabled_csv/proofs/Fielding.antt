@@ -1,5 +1,5 @@
 -- The field at the front of bytes.
-use Rattle.tabled_csv.proofs.Common.{Dialect, opens, eqb-true, ne_eqb, ◌≡◌, ◌≤◌, ◌<◌, ◌+◌, ◌-◌, ◌++◌, ◌∷◌, ◌∙◌, [], ℕ, List, false, true, refl, sym, ap, subst, arith, append_assoc, begins_with, doubled, drop, drop_more, ends_with, eq-eqb, get_or, inl, inr, is_outside, length, length-append, list_any, list_any-append, or_parts, quoted, take, take-append-drop, take_rest, IsSeparator, IsUtf8}
+use Rattle.tabled_csv.proofs.Common.{Dialect, opens, eqb-true, ne_eqb, ◌≡◌, ◌<◌, ◌+◌, ◌-◌, ◌++◌, ◌∷◌, ◌∙◌, [], ℕ, List, false, true, refl, sym, ap, subst, append_assoc, begins_with, doubled, drop, drop_more, ends_with, eq-eqb, get_or, inl, inr, is_outside, length, list_any, list_any-append, or_parts, quoted, take, take-append-drop, take_rest, IsSeparator, IsUtf8}
 use Rattle.tabled_csv.proofs.Ends.{ends_with-append}
 use Rattle.tabled_csv.proofs.Unique.{opens-append, form-unique, stop-quote, tail-unique}
 use Rattle.tabled_csv.specs.Fields.{BlankAt, ClosesAt, EndsLine, FormAt, NeverCloses, NoFieldAt, NoStop, PlainAt, Stops, StopsQuoted}
@@ -138,14 +138,6 @@ no-field d sep bytes BehindQuote left f =
     let is : bytes ≡ 34 ∷ (doubled f.0 ++ (34 ∷ f.1)) = f.2 ∙ ap (λ (l : List ℕ). 34 ∷ l) (append_assoc (doubled f.0) (34 ∷ []) f.1) in
     nothing-behind d bytes (doubled f.0 ++ (34 ∷ f.1)) is f.6 sep f.0 f.1 (record { parts = refl; single = f.3 }) f.4
 no-field d sep bytes NotUtf8 left f = not-utf8 d sep bytes f.0 f.1 f.2 f.3 f.4
-
-pub left-within : (d : Dialect) (bytes : List ℕ) (fault : Fault) (left : ℕ) → FaultAt d bytes fault left → left ≤ length bytes
-left-within d bytes UnclosedQuote left f = let e = f.3 in omega arith
-left-within d bytes BehindQuote left f =
-    let e : left ≡ length f.1 = f.5 in
-    let l : length bytes ≡ length (quoted f.0) + length f.1 = ap length f.2 ∙ length-append (quoted f.0) f.1 in
-    omega arith
-left-within d bytes NotUtf8 left f = let e = f.5 in omega arith
 
 pub behind-fault : (d : Dialect) (bytes behind text tail : List ℕ) → bytes ≡ 34 ∷ behind → d.quoting ≡ true → ClosesAt behind text tail → NoStop d.separator tail → FaultAt d bytes BehindQuote (length tail)
 behind-fault d bytes behind text tail begins quoting c none =

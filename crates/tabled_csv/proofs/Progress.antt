@@ -1,14 +1,12 @@
 -- Reading, step by step: what was read, and what is left.
-use Rattle.tabled_csv.proofs.Common.{Dialect, IsField, eqb-true, false, true, ◌==◌, ◌≡◌, ◌≤◌, ◌<◌, ◌+◌, ◌++◌, ◌∷◌, ◌∙◌, [], ℕ, List, refl, sym, ap, subst, arith, append-nil, append_assoc, inl, inr, length, length-append, IsLine, IsLineEnd, IsLines, IsRecord, IsSeparator, ◌⊎◌}
+use Rattle.tabled_csv.proofs.Common.{Dialect, IsField, eqb-true, false, true, ◌==◌, ◌≡◌, ◌<◌, ◌+◌, ◌++◌, ◌∷◌, ◌∙◌, [], ℕ, List, refl, sym, ap, subst, arith, append-nil, append_assoc, inl, inr, length, length-append, IsLine, IsLineEnd, IsLines, IsRecord, IsSeparator, ◌⊎◌}
 use Rattle.tabled_csv.proofs.Lines.{FilledAt, LinesAt, behind-blank, behind-filled, lines-at, lines-from, no-lines}
 use Rattle.tabled_csv.proofs.Records.{behind-separator, field-before, no-record, record-from}
-use Rattle.tabled_csv.proofs.Fielding.{left-within, no-field}
-use Rattle.tabled_csv.specs.Faults.{AreParted, FaultAt, FaultIn, IsFront}
+use Rattle.tabled_csv.proofs.Fielding.{no-field}
+use Rattle.tabled_csv.specs.Faults.{AreParted, FaultAt, IsFront}
 use Rattle.tabled_csv.specs.declared.fault.Fault.{Fault}
 use Rattle.tabled_csv.specs.Fields.{BlankAt, FieldAt}
-use Rattle.tabled_csv.specs.declared.fault.PartError.{PartError}
-use Rattle.tabled_csv.specs.declared.fault.PartError.TheVariants.{Faulty, OutOfMemory}
-use Rattle.tabled_csv.specs.Reading.{Shows, LinesFault, RecordAt, RecordFault}
+use Rattle.tabled_csv.specs.Reading.{LinesFault, RecordAt, RecordFault}
 use Rattle.tabled_csv.specs.declared.stop.Stop.TheVariants.{Separator}
 
 -- ---- the fields of a record
@@ -230,14 +228,3 @@ no-bytes [] e = refl
 no-bytes (b ∷ bytes) e =
     let no : length (b ∷ bytes) ≡ 0 = eqb-true (length (b ∷ bytes)) 0 (sym e) in
     absurd (omega arith)
-
--- ---- what an error tells
-pub faulty-at : (P Q : Fault → ℕ → Type 0) (e : PartError) → ((fault : Fault) (left : ℕ) → P fault left → Q fault left) → Shows P e → Shows Q e
-faulty-at P Q (Faulty fault left) f p = f fault left p
-faulty-at P Q OutOfMemory f p = p
-
-pub fault-within : (d : Dialect) (bytes : List ℕ) (fault : Fault) (left : ℕ) → FaultIn d bytes fault left → left ≤ length bytes
-fault-within d bytes fault left f =
-    let e : length bytes ≡ length f.0 + length f.1 = ap length f.2 ∙ length-append f.0 f.1 in
-    let l = left-within d f.1 fault left f.4 in
-    omega arith

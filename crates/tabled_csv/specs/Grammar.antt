@@ -1,6 +1,7 @@
 -- What CSV means: bytes that are rows of texts.
-use Rattle.std.specs.Prelude.{true, ◌≡◌, ◌≢◌, ◌<◌, ◌⊎◌, ◌==◌, ◌&&◌, ◌||◌, ℕ, Bool, false, List, [], ◌∷◌, ◌++◌, drop, if◌then◌else◌, IsUtf8}
+use Rattle.std.specs.Prelude.{true, ◌≡◌, ◌≢◌, ◌<◌, ◌⊎◌, ◌==◌, ◌&&◌, ◌||◌, ℕ, Bool, false, List, [], ◌∷◌, ◌++◌, if◌then◌else◌, IsUtf8}
 use Rattle.std.specs.List.{list_any}
+use Rattle.tabled_texts.specs.Marks.{behind_mark}
 
 -- what may part fields: a byte of ASCII that is no quote and has no part in the end of a line
 pub record IsSeparator (separator : ℕ) : Type 0 where
@@ -82,17 +83,6 @@ pub data IsLines : Dialect → List ℕ → List (List (List ℕ)) → Type 0 wh
   line : {dialect : Dialect} {bytes : List ℕ} {rows : List (List (List ℕ))} (line end rest : List ℕ) (here more : List (List (List ℕ)))
       → bytes ≡ line ++ (end ++ rest) → rows ≡ here ++ more
       → IsLine dialect line here → IsLineEnd line end → IsLines dialect rest more → IsLines dialect bytes rows
-
--- U+FEFF in UTF-8, the byte order mark
-abbrev pub begins_with_mark : List ℕ → Bool
-begins_with_mark [] = false
-begins_with_mark (a ∷ []) = false
-begins_with_mark (a ∷ b ∷ []) = false
-begins_with_mark (a ∷ b ∷ c ∷ bytes) = (a == 239) && ((b == 187) && (c == 191))
-
--- bytes behind a byte order mark, if they begin with one
-abbrev pub behind_mark : List ℕ → List ℕ
-behind_mark bytes = if begins_with_mark bytes then drop 3 bytes else bytes
 
 -- bytes are rows of texts
 abbrev pub IsCsv : Dialect → List ℕ → List (List (List ℕ)) → Type 0

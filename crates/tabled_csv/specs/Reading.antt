@@ -4,16 +4,9 @@ use Rattle.tabled_csv.specs.Grammar.{Dialect, IsCsv, IsLines}
 use Rattle.tabled_csv.specs.Faults.{AreParted, FaultAt, FaultIn}
 use Rattle.tabled_csv.specs.Fields.{FieldAt}
 use Rattle.tabled_csv.specs.declared.fault.Fault.{Fault}
-use Rattle.tabled_csv.specs.declared.fault.PartError.{PartError}
-use Rattle.tabled_csv.specs.declared.fault.PartError.TheVariants.{Faulty, OutOfMemory}
 use Rattle.tabled_csv.specs.declared.fault.ReadError.{ReadError}
 use Rattle.tabled_csv.specs.declared.fault.ReadError.TheVariants as error
 use Rattle.tabled_csv.specs.declared.stop.Stop.TheVariants.{Separator, Line, End}
-
--- where memory was not refused, there is a fault, which shows where so many bytes are left
-abbrev pub Shows : (Fault → ℕ → Type 0) → PartError → Type 0
-Shows P (Faulty fault left) = P fault left
-Shows P OutOfMemory = Unit {0}
 
 -- where memory was not refused, there is a fault in a line
 abbrev pub AtFault : (ℕ → Fault → Type 0) → ReadError → Type 0

@@ -4,9 +4,10 @@ use Rattle.std.specs.List.{AllByRecursion, list_any}
 use Rattle.std.specs.IoError.{error_kind}
 use Rattle.std.specs.declared.io.Error.{Error}
 use Rattle.std.specs.declared.io.ErrorKind.TheVariants as ErrorKind
-use Rattle.tabled_csv.specs.Grammar.{IsCsv, begins_with_mark, quoted, with_quotes}
+use Rattle.tabled_csv.specs.Grammar.{IsCsv, quoted, with_quotes}
 use Rattle.tabled_csv.specs.declared.fault.WriteError.{WriteError}
 use Rattle.tabled_csv.specs.declared.fault.WriteError.TheVariants.{Failed, OutOfMemory}
+use Rattle.tabled_texts.specs.Marks.{begins_with_mark}
 
 -- a byte that asks for quotes
 abbrev pub is_special : ℕ → ℕ → Bool

@@ -1,6 +1,6 @@
 //! What is wrong with bytes that are no CSV, and why reading or writing ends early.
 
-use std::alloc::{AllocError, AllocFailed};
+use std::alloc::AllocError;
 use std::error::Error;
 use std::{fmt, io};
 
@@ -106,31 +106,5 @@ impl From<WriteError> for io::Error {
     }
 }
 
-/// Why a part of bytes was not read: a fault, and how many bytes are left where it shows.
-#[derive(Clone, Copy, Debug, PartialEq, Eq)]
-pub(crate) enum PartError {
-    Faulty(Fault, usize),
-    OutOfMemory,
-}
-
-impl From<AllocError> for PartError {
-    ghost use Rattle.std.specs.Prelude.{◌≡◌};
-    ghost use Rattle.tabled_csv.specs.declared.fault.PartError.TheVariants.{OutOfMemory};
-
-    ghost from_gives = { λ _ e. e ≡ OutOfMemory };
-
-    fn from(_refused: AllocError) -> PartError {
-        PartError::OutOfMemory
-    }
-}
-
-impl<T: Drop> From<AllocFailed<T>> for PartError {
-    ghost use Rattle.std.specs.Prelude.{◌≡◌};
-    ghost use Rattle.tabled_csv.specs.declared.fault.PartError.TheVariants.{OutOfMemory};
-
-    ghost from_gives = { λ _ e. e ≡ OutOfMemory };
-
-    fn from(_refused: AllocFailed<T>) -> PartError {
-        PartError::OutOfMemory
-    }
-}
+/// Why a part of bytes was not read.
+pub(crate) type PartError = tabled_texts::PartError<Fault>;

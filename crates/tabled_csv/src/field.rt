@@ -6,15 +6,16 @@ ghost use Rattle.std.specs.Str.Lossy.{utf8_valid_len};
 ghost use Rattle.tabled_csv.specs.Grammar.{IsSeparator, opens};
 ghost use Rattle.tabled_csv.specs.Fields.{FieldAt, PlainAt};
 ghost use Rattle.tabled_csv.specs.Faults.{FaultAt};
-ghost use Rattle.tabled_csv.specs.Reading.{Shows};
+ghost use Rattle.tabled_texts.specs.Reading.{Shows};
 
 use crate::dialect::Dialect;
 use crate::fault::{Fault, PartError};
 use crate::outside::first_outside;
 use crate::quoted::find_closing;
-use crate::room::Spare;
 use crate::stop::{Stop, begins_with, stop_at, without_return};
+use crate::undoubling::undoubled;
 use std::str;
+use tabled_texts::Spare;
 
 /// Whether bytes are UTF-8. Where that is known they aren't tested again.
 #[inline(always)]
@@ -100,7 +101,7 @@ fn quoted_field<'a>(
     };
     let inner = &behind[..closing.place];
     if closing.has_doubled {
-        let Ok(text) = str::from_utf8(spare.undoubled(inner)?) else {
+        let Ok(text) = str::from_utf8(undoubled(inner, spare)?) else {
             return Err(PartError::Faulty(Fault::NotUtf8, left_behind_text(bytes)));
         };
         return Ok((text, stop, after));

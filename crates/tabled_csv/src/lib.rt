@@ -9,15 +9,14 @@ mod outside;
 mod quoted;
 mod quoting;
 mod reading;
-mod room;
-mod rows;
 mod separator;
 mod stop;
+mod undoubling;
 mod writing;
 
 pub use dialect::Dialect;
 pub use fault::{Fault, ReadError, WriteError};
 pub use reading::{read, read_with};
-pub use room::{Room, Spare};
 pub use separator::Separator;
+pub use tabled_texts::{Room, Spare};
 pub use writing::{write, write_records};

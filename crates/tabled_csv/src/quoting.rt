@@ -2,11 +2,11 @@
 
 ghost use Rattle.std.specs.Prelude.{◌≡◌, ◌&&◌, ◌||◌, map};
 ghost use Rattle.std.specs.Simd.Lanes.{mask_l};
-ghost use Rattle.tabled_csv.specs.Grammar.{begins_with_mark};
+ghost use Rattle.tabled_texts.specs.Marks.{begins_with_mark};
 ghost use Rattle.tabled_csv.specs.Writing.{holds_special, is_none, is_special};
 
-use crate::stop::begins_with_mark;
 use std::simd::prelude::*;
+use tabled_texts::begins_with_mark;
 
 /// How many bytes are tested at once.
 const BLOCK: usize = 8;

@@ -1,20 +1,23 @@
 //! CSV, read.
 
-ghost use Rattle.std.specs.Prelude.{◌≡◌, ◌≤◌, [], IfErr, IfOk, IsOk, IsTrue, IsUtf8, MatchResult, OnErr, length};
-ghost use Rattle.tabled_csv.specs.Grammar.{IsSeparator, IsCsv, IsLines, behind_mark, with_quotes};
-ghost use Rattle.tabled_csv.specs.Reading.{AtFault, LinesFault, NoRows, RecordAt, RecordFault, Shows};
-ghost use Rattle.tabled_csv.specs.Faults.{IsFault, line_at};
-ghost use Rattle.tabled_csv.specs.Texts.{KeepsTexts, rows_by, rows_of, texts_by};
+ghost use Rattle.std.specs.Prelude.{[], IfErr, IfOk, IsOk, IsTrue, IsUtf8, MatchResult, OnErr, length};
+ghost use Rattle.tabled_csv.specs.Grammar.{IsSeparator, IsCsv, IsLines, with_quotes};
+ghost use Rattle.tabled_csv.specs.Reading.{AtFault, LinesFault, NoRows, RecordAt, RecordFault};
+ghost use Rattle.tabled_csv.specs.Faults.{IsFault};
+ghost use Rattle.tabled_texts.specs.Texts.{KeepsTexts, rows_by, rows_of, texts_by};
+ghost use Rattle.tabled_texts.specs.Lines.{line_at};
+ghost use Rattle.tabled_texts.specs.Marks.{behind_mark};
+ghost use Rattle.tabled_texts.specs.Reading.{Shows};
 
 use crate::dialect::Dialect;
 use crate::fault::{PartError, ReadError};
 use crate::field::read_field;
-use crate::room::{Room, Spare};
 use crate::separator::Separator;
-use crate::stop::{Stop, begins_with_mark, behind_line_end};
+use crate::stop::{Stop, behind_line_end};
 use std::alloc::Global;
 use std::str;
 use tabled_grid::records::CellText;
+use tabled_texts::{Room, Spare, behind_mark, line_at};
 
 /// The record at the front of bytes, and the bytes behind its line. There is room for some fields from the start.
 fn record<'a, T>(
@@ -77,27 +80,6 @@ where
         }
     }
     Ok(rows)
-}
-
-/// Bytes behind a byte order mark, if they begin with one.
-fn behind_mark(bytes: &[u8]) -> &[u8]
-    ensures { result.now ≡ behind_mark bytes.now }
-{
-    if begins_with_mark(bytes) {
-        return &bytes[3..];
-    }
-    bytes
-}
-
-/// In which line of bytes so many of them are left.
-fn line_at(bytes: &[u8], left: usize) -> usize
-    requires { left ≤ length bytes.now }
-    ensures { result ≡ line_at bytes.now left }
-{
-    1 + bytes[..bytes.len() - left]
-        .iter()
-        .filter(|b| **b == b'\n')
-        .count()
 }
 
 /// The rows of texts that bytes mean as CSV.

@@ -1,13 +1,10 @@
 //! What is behind a field.
 
 ghost use Rattle.std.specs.Prelude.{◌≡◌, ℕ, List, MatchOption};
-ghost use Rattle.tabled_csv.specs.Grammar.{begins_with, begins_with_mark};
+ghost use Rattle.tabled_csv.specs.Grammar.{begins_with};
 ghost use Rattle.tabled_csv.specs.Fields.{BlankAt, EndsLine, NoStop, StopsQuoted};
 
 use crate::dialect::Dialect;
-
-/// The bytes of U+FEFF, the byte order mark.
-const MARK: [u8; 3] = [0xEF, 0xBB, 0xBF];
 
 /// What is behind a field.
 #[derive(Clone, Copy, Debug, PartialEq, Eq)]
@@ -69,11 +66,4 @@ pub(crate) fn without_return(bytes: &[u8]) -> &[u8]
         }
     }
     bytes
-}
-
-/// Whether bytes begin with a byte order mark.
-pub(crate) fn begins_with_mark(bytes: &[u8]) -> bool
-    ensures { result ≡ begins_with_mark bytes.now }
-{
-    3 <= bytes.len() && bytes[0] == MARK[0] && bytes[1] == MARK[1] && bytes[2] == MARK[2]
 }

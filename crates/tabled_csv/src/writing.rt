@@ -4,7 +4,7 @@ ghost use Rattle.std.specs.Prelude.{◌≡◌, ◌<◌, ◌==◌, ◌∷◌, Err
 ghost use Rattle.std.specs.Io.KnownBytes.{Appends};
 ghost use Rattle.std.specs.List.{AllByRecursion};
 ghost use Rattle.tabled_csv.specs.Grammar.{quoted};
-ghost use Rattle.tabled_csv.specs.Texts.{cells_by, row_at, rows_by};
+ghost use Rattle.tabled_texts.specs.Texts.{cells_by, row_at, rows_by};
 ghost use Rattle.tabled_csv.specs.Writing.{AreTexts, HaveFields, OnFailed, WrittenMeans, csv_of, field_of, holds_special, others_of, record_of};
 ghost use Rattle.tabled_csv.specs.declared.fault.WriteError.TheVariants.{OutOfMemory};
 ghost use Rattle.tabled_held.specs.Pens.{Sends};
@@ -12,12 +12,12 @@ ghost use Rattle.tabled_held.specs.Sent.{IsCutShort};
 
 use crate::fault::WriteError;
 use crate::quoting::{first_is_quoted, holds_special};
-use crate::rows::{Rows, Stored};
 use crate::separator::Separator;
 use std::alloc::Global;
 use std::io::Write;
 use tabled_grid::records::{CellText, ExactRecords, PeekableRecords, Records};
 use tabled_held::{Held, Pen};
+use tabled_texts::{Rows, Stored};
 
 /// Writes a text between quotes.
 #[inline(never)]

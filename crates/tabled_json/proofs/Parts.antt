@@ -4,7 +4,7 @@ use Rattle.std.proofs.lemmas.List.{take_all}
 use Rattle.std.specs.List.{zip}
 use Rattle.std.specs.Prelude.{slice_get}
 use Rattle.tabled_json.proofs.Common.{◌≡◌, ◌≤◌, ◌<◌, ◌+◌, ◌-◌, ◌++◌, ◌∷◌, ◌∙◌, [], ℕ, zero, suc, List, Some, refl, sym, ap, arith, append-nil, append_assoc, get_or, length, map, same_Some, take, Err}
-use Rattle.tabled_json.specs.Texts.{row_at}
+use Rattle.tabled_texts.specs.Texts.{row_at}
 use Rattle.tabled_json.specs.Writing.{before_index, lines_text, object_text, parted, records_of}
 use Rattle.tabled_json.specs.Writes.{IsRefused, OnFailed}
 use Rattle.tabled_json.specs.declared.fault.WriteError.{WriteError}

@@ -2,14 +2,15 @@
 use Rattle.tabled_json.proofs.Common.{◌≡◌, ◌∙◌, ℕ, List, Fault, Shows, ap, subst, sym}
 use Rattle.tabled_json.specs.Faults.{ShowsAt}
 use Rattle.tabled_json.specs.Laws.{HasOneFault}
-use Rattle.tabled_json.specs.Places.{AtFault, IsTold, column_at, line_at}
-use Rattle.tabled_json.specs.Records.{behind_mark}
-use Rattle.tabled_json.specs.declared.fault.PartError.{PartError}
-use Rattle.tabled_json.specs.declared.fault.PartError.TheVariants.{Faulty, OutOfMemory}
+use Rattle.tabled_json.specs.Places.{AtFault, IsTold, column_at}
+use Rattle.tabled_texts.specs.declared.part_error.PartError.{PartError}
+use Rattle.tabled_texts.specs.declared.part_error.PartError.TheVariants.{Faulty, OutOfMemory}
 use Rattle.tabled_json.specs.declared.fault.ReadError.{ReadError}
 use Rattle.tabled_json.specs.declared.fault.ReadError.TheVariants as told
+use Rattle.tabled_texts.specs.Lines.{line_at}
+use Rattle.tabled_texts.specs.Marks.{behind_mark}
 
-pub told-shows : (FaultAt : List ℕ → Fault → ℕ → Type 0) (bytes text : List ℕ) (error : PartError) (e : ReadError) → text ≡ behind_mark bytes → IsTold text error e → Shows (FaultAt text) error
+pub told-shows : (FaultAt : List ℕ → Fault → ℕ → Type 0) (bytes text : List ℕ) (error : PartError Fault) (e : ReadError) → text ≡ behind_mark bytes → IsTold text error e → Shows (FaultAt text) error
     → AtFault (ShowsAt FaultAt bytes) e
 told-shows FaultAt bytes text (Faulty fault left) e is t f =
     subst (AtFault (ShowsAt FaultAt bytes)) (sym t)

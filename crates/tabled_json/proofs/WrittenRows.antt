@@ -5,12 +5,13 @@ use Rattle.tabled_json.proofs.Tabled.{table-back}
 use Rattle.tabled_json.proofs.WrittenRecords.{records-written}
 use Rattle.tabled_json.specs.Grammar.{IsRecords}
 use Rattle.tabled_json.specs.Laws.{IsTable}
-use Rattle.tabled_json.specs.Records.{MeansRecords, begins_with_mark, behind_mark}
+use Rattle.tabled_json.specs.Records.{MeansRecords}
 use Rattle.tabled_json.specs.Tables.{table_of}
 use Rattle.tabled_json.specs.Writing.{AreRecords, IsMember, records_of, records_text}
 use Rattle.tabled_json.specs.declared.form.Layout.{Layout}
 use Rattle.tabled_json.specs.declared.form.Layout.TheVariants.{Array, Lines}
 use Rattle.tabled_json.specs.declared.form.Values.{Values}
+use Rattle.tabled_texts.specs.Marks.{begins_with_mark, behind_mark}
 
 -- no byte order mark begins with this byte
 no-mark : (b : ℕ) (bytes : List ℕ) → (b == 239) ≡ false → begins_with_mark (b ∷ bytes) ≡ false

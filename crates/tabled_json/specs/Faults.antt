@@ -4,9 +4,8 @@ use Rattle.std.specs.Prelude.{◌≡◌, ◌==◌, ◌&&◌, ◌||◌, nat_le, n
 use Rattle.tabled_json.specs.Grammar.{CellAt, CellTextAt, KeyAt, ListAt, MemberAt, NumberAt, ObjectAt, RowAt, ScalarAt, ValueAt, WordAt, behind_word, closing, false_word, null_word, opening, true_word}
 use Rattle.tabled_json.specs.Meanings.{begins_rows}
 use Rattle.tabled_json.specs.Numbers.{is_numeric}
-use Rattle.tabled_json.specs.Places.{column_at, line_at}
+use Rattle.tabled_json.specs.Places.{column_at}
 use Rattle.tabled_json.specs.Reading.{NoneAt}
-use Rattle.tabled_json.specs.Records.{behind_mark}
 use Rattle.tabled_json.specs.Space.{NotBefore, behind_space}
 use Rattle.tabled_json.specs.Strings.{StringAt, escaped_at, is_plain}
 use Rattle.tabled_json.specs.WholeValues.{IsInside, IsNext, OpensNothing}
@@ -14,6 +13,8 @@ use Rattle.tabled_json.specs.declared.fault.Fault.{Fault}
 use Rattle.tabled_json.specs.declared.fault.Fault.TheVariants.{BadEscape, BadNumber, BadUnicode, Closing, Comma, Comment, Control, Ended, NoArray, NoObject, NoWord, NotUtf8, SingleQuote, Unclosed, Unexpected}
 use Rattle.tabled_json.specs.declared.kind.Kind.{Kind}
 use Rattle.tabled_json.specs.declared.kind.Kind.TheVariants.{Array, Object}
+use Rattle.tabled_texts.specs.Lines.{line_at}
+use Rattle.tabled_texts.specs.Marks.{behind_mark}
 
 -- a letter
 abbrev pub is_letter : ℕ → Bool

@@ -10,7 +10,6 @@ pub mod Reading
 pub mod Writing
 pub mod Writes
 pub mod Tables
-pub mod Texts
 pub mod Meanings
 pub mod Faults
 pub mod Laws

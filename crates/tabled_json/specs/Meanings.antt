@@ -1,9 +1,9 @@
 -- The tables that bytes mean.
 use Rattle.std.specs.Prelude.{◌≡◌, ◌==◌, ◌&&◌, ℕ, Bool, false, List, [], ◌∷◌}
 use Rattle.tabled_json.specs.Grammar.{AreRows, IsRecords}
-use Rattle.tabled_json.specs.Records.{behind_mark}
 use Rattle.tabled_json.specs.Space.{behind_space}
 use Rattle.tabled_json.specs.Tables.{table_of}
+use Rattle.tabled_texts.specs.Marks.{behind_mark}
 
 -- bytes are no rows
 abbrev pub NoRows : List ℕ → Type 0

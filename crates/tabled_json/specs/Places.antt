@@ -1,17 +1,13 @@
 -- Where it shows that bytes are no records, and why, as it is told.
 use Rattle.std.specs.Fmt.{decimal}
-use Rattle.std.specs.List.{count_by}
 use Rattle.std.specs.Prelude.{◌≡◌, ◌+◌, ◌-◌, ◌==◌, ℕ, List, [], ◌∷◌, ◌++◌, codes, if◌then◌else◌, length, take}
 use Rattle.tabled_json.specs.declared.fault.Fault.{Fault}
 use Rattle.tabled_json.specs.declared.fault.Fault.TheVariants.{BadEscape, BadNumber, BadUnicode, Closing, Comma, Comment, Control, Ended, NoArray, NoObject, NoWord, NotUtf8, SingleQuote, Unclosed, Unexpected}
-use Rattle.tabled_json.specs.declared.fault.PartError.{PartError}
-use Rattle.tabled_json.specs.declared.fault.PartError.TheVariants as part_error
+use Rattle.tabled_texts.specs.declared.part_error.PartError.{PartError}
+use Rattle.tabled_texts.specs.declared.part_error.PartError.TheVariants as part_error
 use Rattle.tabled_json.specs.declared.fault.ReadError.{ReadError}
 use Rattle.tabled_json.specs.declared.fault.ReadError.TheVariants.{Faulty, OutOfMemory}
-
--- in which line of bytes so many are left
-abbrev pub line_at : List ℕ → ℕ → ℕ
-line_at bytes left = 1 + count_by (λ b. b == 10) (take (length bytes - left) bytes)
+use Rattle.tabled_texts.specs.Lines.{line_at}
 
 -- the column behind bytes that begin in a column
 abbrev pub column_behind : ℕ → List ℕ → ℕ
@@ -32,7 +28,7 @@ AtFault P (Faulty line column fault) = P line column fault
 AtFault P OutOfMemory = Unit {0}
 
 -- what is told of bytes that were not read: the fault, in the line and the column where so many bytes are left
-abbrev pub IsTold : List ℕ → PartError → ReadError → Type 0
+abbrev pub IsTold : List ℕ → PartError Fault → ReadError → Type 0
 IsTold bytes (part_error.Faulty fault left) told = told ≡ Faulty (line_at bytes left) (column_at bytes left) fault
 IsTold bytes part_error.OutOfMemory told = told ≡ OutOfMemory
 

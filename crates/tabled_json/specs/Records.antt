@@ -1,9 +1,10 @@
 -- The texts of records.
 use Rattle.std.specs.Borrow.{Bor}
 use Rattle.std.specs.Global.{Vec}
-use Rattle.std.specs.Prelude.{◌≡◌, ◌==◌, ◌&&◌, ℕ, Bool, false, List, [], ◌∷◌, if◌then◌else◌, drop, map, IsUtf8}
+use Rattle.std.specs.Prelude.{◌≡◌, ℕ, List, map, IsUtf8}
 use Rattle.tabled_json.specs.Grammar.{AreLines, IsRecords}
 use Rattle.tabled_json.specs.declared.member.Member.{Member}
+use Rattle.tabled_texts.specs.Marks.{behind_mark}
 
 -- a text is these bytes
 pub record HoldsText (bytes : List ℕ) (text : Bor (List ℕ)) : Type 0 where
@@ -37,17 +38,6 @@ NoLines bytes = (objects : List (List (List ℕ × List ℕ))) → AreLines byte
 -- bytes are no records
 abbrev pub NoRecords : List ℕ → Type 0
 NoRecords bytes = (objects : List (List (List ℕ × List ℕ))) → IsRecords bytes objects → ⊥
-
--- U+FEFF in UTF-8, the byte order mark
-abbrev pub begins_with_mark : List ℕ → Bool
-begins_with_mark [] = false
-begins_with_mark (a ∷ []) = false
-begins_with_mark (a ∷ b ∷ []) = false
-begins_with_mark (a ∷ b ∷ c ∷ bytes) = (a == 239) && ((b == 187) && (c == 191))
-
--- bytes behind a byte order mark, if they begin with one
-abbrev pub behind_mark : List ℕ → List ℕ
-behind_mark bytes = if begins_with_mark bytes then drop 3 bytes else bytes
 
 -- bytes mean records, a byte order mark in front or not
 abbrev pub MeansRecords : List ℕ → List (List (List ℕ × List ℕ)) → Type 0

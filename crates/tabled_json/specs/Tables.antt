@@ -5,7 +5,7 @@ use Rattle.std.specs.List.{list_any}
 use Rattle.std.specs.Ordering.{nat_cmp}
 use Rattle.std.specs.Prelude.{◌≡◌, ℕ, suc, Bool, false, List, [], ◌∷◌, ◌++◌, map, if◌then◌else◌, Option, None, Some, option_map}
 use Rattle.std.specs.Str.{bytes_eq}
-use Rattle.tabled_json.specs.Texts.{texts_of}
+use Rattle.tabled_texts.specs.Texts.{texts_of}
 use Rattle.tabled_json.specs.declared.keys.Keys.{Keys}
 
 -- a key is among others

@@ -4,7 +4,7 @@ use Rattle.std.specs.Prelude.{◌≡◌, ◌<◌, ◌≤◌, ℕ, List, [], Err,
 use Rattle.std.specs.declared.io.Error.{Error}
 use Rattle.std.specs.declared.io.ErrorKind.TheVariants as ErrorKind
 use Rattle.tabled_json.specs.Tables.{AreDistinct}
-use Rattle.tabled_json.specs.Texts.{row_at}
+use Rattle.tabled_texts.specs.Texts.{row_at}
 use Rattle.tabled_json.specs.declared.fault.WriteError.{WriteError}
 use Rattle.tabled_json.specs.declared.fault.WriteError.TheVariants.{EqualKeys, Failed, LongRow, OutOfMemory}
 

@@ -3,13 +3,13 @@
 ghost use Rattle.std.specs.Prelude.{◌≡◌, ℕ, List, IfOk};
 ghost use Rattle.tabled_json.specs.Faults.{RowFault};
 ghost use Rattle.tabled_json.specs.Grammar.{RowAt};
-ghost use Rattle.tabled_json.specs.Texts.{texts_of};
+ghost use Rattle.tabled_texts.specs.Texts.{texts_of};
 
 use crate::fault::{Fault, PartError};
 use crate::kind::Kind;
 use crate::list::{Element, list};
-use crate::room::Spare;
 use std::alloc::{AllocError, Global};
+use tabled_texts::Spare;
 
 impl<'a> Element<'a> for Vec<&'a str> {
     ghost Shown = { List (List ℕ) };

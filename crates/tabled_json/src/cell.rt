@@ -3,18 +3,19 @@
 ghost use Rattle.std.specs.Prelude.{◌≡◌, ◌≤◌, ℕ, List, IfOk, MatchResult, length};
 ghost use Rattle.tabled_json.specs.Faults.{CellFault, IsNoText};
 ghost use Rattle.tabled_json.specs.Grammar.{CellAt};
-ghost use Rattle.tabled_json.specs.Reading.{Shows};
 ghost use Rattle.tabled_json.specs.Records.{HoldsText};
-ghost use Rattle.tabled_json.specs.Texts.{text_of};
+ghost use Rattle.tabled_texts.specs.Texts.{text_of};
+ghost use Rattle.tabled_texts.specs.Reading.{Shows};
 
 use crate::fault::{Fault, PartError};
+use crate::lending::lent;
 use crate::list::{Element, exact};
-use crate::room::Spare;
 use crate::scalar::scalar;
 use crate::space::behind_byte;
 use crate::value::{behind_value, opened};
 use std::alloc::{AllocError, Global};
 use std::str;
+use tabled_texts::Spare;
 
 /// Bytes as a text, lent by a source that begins with it, or else a copy. So many bytes are left where it shows.
 pub(crate) fn text_of<'a>(
@@ -25,8 +26,8 @@ pub(crate) fn text_of<'a>(
 ) -> Result<&'a str, PartError>
     ensures { MatchResult result (HoldsText bytes.now) (Shows (IsNoText left bytes.now)) }
 {
-    let lent = spare.lend(source, bytes)?;
-    match str::from_utf8(lent) {
+    let found = lent(source, bytes, spare)?;
+    match str::from_utf8(found) {
         Ok(text) => Ok(text),
         Err(_) => Err(PartError::Faulty(Fault::NotUtf8, left)),
     }

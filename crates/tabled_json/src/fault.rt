@@ -2,11 +2,11 @@
 
 ghost use Rattle.std.specs.Prelude.{◌≡◌};
 ghost use Rattle.tabled_json.specs.Faults.{IsWanted, begins_word, is_letter, told_by};
-ghost use Rattle.tabled_json.specs.Reading.{Shows};
 ghost use Rattle.tabled_json.specs.declared.fault.Fault.TheVariants.{Unexpected};
+ghost use Rattle.tabled_texts.specs.Reading.{Shows};
 
 use crate::scalar::behind_word;
-use std::alloc::{AllocError, AllocFailed};
+use std::alloc::AllocError;
 use std::error::Error;
 use std::{fmt, io};
 
@@ -161,34 +161,8 @@ impl From<WriteError> for io::Error {
     }
 }
 
-/// Why a part of bytes was not read: a fault, and how many bytes are left where it shows.
-#[derive(Clone, Copy, Debug, PartialEq, Eq)]
-pub(crate) enum PartError {
-    Faulty(Fault, usize),
-    OutOfMemory,
-}
-
-impl From<AllocError> for PartError {
-    ghost use Rattle.std.specs.Prelude.{◌≡◌};
-    ghost use Rattle.tabled_json.specs.declared.fault.PartError.TheVariants.{OutOfMemory};
-
-    ghost from_gives = { λ _ e. e ≡ OutOfMemory };
-
-    fn from(_refused: AllocError) -> PartError {
-        PartError::OutOfMemory
-    }
-}
-
-impl<T: Drop> From<AllocFailed<T>> for PartError {
-    ghost use Rattle.std.specs.Prelude.{◌≡◌};
-    ghost use Rattle.tabled_json.specs.declared.fault.PartError.TheVariants.{OutOfMemory};
-
-    ghost from_gives = { λ _ e. e ≡ OutOfMemory };
-
-    fn from(_refused: AllocFailed<T>) -> PartError {
-        PartError::OutOfMemory
-    }
-}
+/// Why a part of bytes was not read.
+pub(crate) type PartError = tabled_texts::PartError<Fault>;
 
 /// Whether a byte is a letter.
 fn is_letter(byte: u8) -> bool

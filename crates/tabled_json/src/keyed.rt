@@ -2,13 +2,13 @@
 
 ghost use Rattle.std.specs.Prelude.{◌≡◌, ◌<◌, ◌≤◌, [], IfErr, OnOk, length};
 ghost use Rattle.tabled_json.specs.Tables.{AreDistinct};
-ghost use Rattle.tabled_json.specs.Texts.{row_at};
+ghost use Rattle.tabled_texts.specs.Texts.{row_at};
 ghost use Rattle.tabled_json.specs.Writes.{AreKeyed, AreNarrow, IsRefused, IsWhy};
 
 use crate::fault::WriteError;
 use crate::keys::Keys;
-use crate::rows::Rows;
 use std::alloc::Global;
+use tabled_texts::Rows;
 
 /// Says whether the texts of the first row differ.
 fn check_keys<R: Rows>(alloc: Global, rows: &R) -> Result<(), WriteError>

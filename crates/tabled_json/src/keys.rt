@@ -2,7 +2,7 @@
 
 ghost use Rattle.std.specs.Prelude.{◌≡◌, [], IfOk};
 ghost use Rattle.tabled_json.specs.Tables.{AreListed, find_key, with_key};
-ghost use Rattle.tabled_json.specs.Texts.{texts_of};
+ghost use Rattle.tabled_texts.specs.Texts.{texts_of};
 
 use std::alloc::{AllocError, Global};
 use std::collections::BTreeMap;

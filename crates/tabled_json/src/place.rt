@@ -1,40 +1,11 @@
 //! Where it shows that bytes mean nothing, as it is told.
 
 ghost use Rattle.std.specs.Prelude.{◌≡◌, ◌<◌, ◌≤◌, ◌+◌, ◌==◌, if◌then◌else◌};
-ghost use Rattle.tabled_json.specs.Places.{AtFault, IsPlace, IsTold, column_at, column_behind, line_at};
-ghost use Rattle.tabled_json.specs.Records.{begins_with_mark, behind_mark};
+ghost use Rattle.tabled_json.specs.Places.{AtFault, IsPlace, IsTold, column_at, column_behind};
+ghost use Rattle.tabled_texts.specs.Lines.{line_at};
 
 use crate::fault::{PartError, ReadError};
-
-/// The bytes of U+FEFF, the byte order mark.
-const MARK: [u8; 3] = [0xEF, 0xBB, 0xBF];
-
-/// Whether bytes begin with a byte order mark.
-fn begins_with_mark(bytes: &[u8]) -> bool
-    ensures { result ≡ begins_with_mark bytes.now }
-{
-    3 <= bytes.len() && bytes[0] == MARK[0] && bytes[1] == MARK[1] && bytes[2] == MARK[2]
-}
-
-/// Bytes behind a byte order mark, if they begin with one.
-pub(crate) fn behind_mark(bytes: &[u8]) -> &[u8]
-    ensures { result.now ≡ behind_mark bytes.now }
-{
-    if begins_with_mark(bytes) {
-        return &bytes[3..];
-    }
-    bytes
-}
-
-/// In which line of bytes so many of them are left.
-fn line_at(bytes: &[u8], left: usize) -> usize
-    ensures { result ≡ line_at bytes.now left }
-{
-    1 + bytes[..bytes.len().saturating_sub(left)]
-        .iter()
-        .filter(|b| **b == b'\n')
-        .count()
-}
+use tabled_texts::line_at;
 
 /// The column behind a byte that stands in a column.
 fn next_column(column: usize, byte: u8) -> usize

@@ -4,19 +4,20 @@ ghost use Rattle.std.specs.Prelude.{◌≡◌, ◌<◌, ℕ, List, IfErr, IfOk, 
 ghost use Rattle.tabled_json.specs.Faults.{IsFault, LinesFault, MemberFault, ObjectFault, RecordsFault};
 ghost use Rattle.tabled_json.specs.Grammar.{AreLines, IsRecords, MemberAt, ObjectAt};
 ghost use Rattle.tabled_json.specs.Places.{AtFault, IsPlace};
-ghost use Rattle.tabled_json.specs.Reading.{Shows};
-ghost use Rattle.tabled_json.specs.Records.{MeansNoRecords, MeansRecords, behind_mark, member_of, members_of, objects_of};
+ghost use Rattle.tabled_json.specs.Records.{MeansNoRecords, MeansRecords, member_of, members_of, objects_of};
+ghost use Rattle.tabled_texts.specs.Marks.{behind_mark};
+ghost use Rattle.tabled_texts.specs.Reading.{Shows};
 
 use crate::cell::{behind_quote, cell, text_of};
 use crate::fault::{Fault, PartError, ReadError};
 use crate::kind::Kind;
 use crate::list::{Element, exact, list, whole_array};
 use crate::member::Member;
-use crate::place::{behind_mark, told};
-use crate::room::{Room, Spare};
+use crate::place::told;
 use crate::space::{behind_byte, behind_space};
 use crate::value::key;
 use std::alloc::{AllocError, Global};
+use tabled_texts::{Room, Spare, behind_mark};
 
 /// The member at the front, and the bytes behind it.
 fn read_member<'a>(

@@ -4,21 +4,22 @@ ghost use Rattle.std.specs.Prelude.{◌≡◌, [], IfErr, IfOk, MatchResult, OnO
 ghost use Rattle.tabled_json.specs.Faults.{IsTableFault, TableFault};
 ghost use Rattle.tabled_json.specs.Meanings.{HoldsTable, MeansNoTable, MeansTable, begins_rows};
 ghost use Rattle.tabled_json.specs.Places.{AtFault, IsPlace};
-ghost use Rattle.tabled_json.specs.Reading.{Shows};
-ghost use Rattle.tabled_json.specs.Records.{all_of, behind_mark, list_of};
+ghost use Rattle.tabled_json.specs.Records.{all_of, list_of};
 ghost use Rattle.tabled_json.specs.Space.{behind_space};
 ghost use Rattle.tabled_json.specs.Tables.{AreListed, keys_of, row_of, table_of, with_members};
-ghost use Rattle.tabled_json.specs.Texts.{rows_of, text_of, texts_of};
+ghost use Rattle.tabled_texts.specs.Texts.{rows_of, text_of, texts_of};
+ghost use Rattle.tabled_texts.specs.Marks.{behind_mark};
+ghost use Rattle.tabled_texts.specs.Reading.{Shows};
 
 use crate::fault::{PartError, ReadError};
 use crate::keys::Keys;
 use crate::list::whole_array;
 use crate::member::Member;
-use crate::place::{behind_mark, told};
+use crate::place::told;
 use crate::record::records;
-use crate::room::{Room, Spare};
 use crate::space::{behind_byte, behind_space};
 use std::alloc::{AllocError, Global};
+use tabled_texts::{Room, Spare, behind_mark};
 
 /// Adds the keys of an object that aren't there.
 fn add_keys<'a>(keys: &mut Keys<'a>, object: &[Member<'a>]) -> Result<(), AllocError>

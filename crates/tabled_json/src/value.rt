@@ -3,8 +3,8 @@
 ghost use Rattle.std.specs.Prelude.{◌≡◌, ◌∷◌, ◌<◌, ◌≤◌, IfOk, IfSome, MatchOption, MatchResult, length};
 ghost use Rattle.tabled_json.specs.Faults.{EndFault, ItemFault, KeyFault, ValueFault};
 ghost use Rattle.tabled_json.specs.Grammar.{ItemAt, KeyAt, ValueAt, opening};
-ghost use Rattle.tabled_json.specs.Reading.{Shows};
 ghost use Rattle.tabled_json.specs.WholeValues.{BegunAt, EndedAt, OpensNothing, begun_left, ended_left};
+ghost use Rattle.tabled_texts.specs.Reading.{Shows};
 
 use crate::fault::{PartError, unexpected};
 use crate::kind::{Kind, closing};

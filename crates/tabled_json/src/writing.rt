@@ -6,7 +6,7 @@ ghost use Rattle.std.specs.Prelude.{◌≡◌, ◌∷◌, ◌<◌, ◌/◌, ◌%
 ghost use Rattle.tabled_held.specs.Pens.{Sends};
 ghost use Rattle.tabled_held.specs.Sent.{IsCutShort};
 ghost use Rattle.tabled_json.specs.Strings.{is_plain};
-ghost use Rattle.tabled_json.specs.Texts.{cells_by, row_at, rows_by};
+ghost use Rattle.tabled_texts.specs.Texts.{cells_by, row_at, rows_by};
 ghost use Rattle.tabled_json.specs.Writes.{AreKeyed, IsNoLongRow, IsWhy, OnFailed, OnRefused};
 ghost use Rattle.tabled_json.specs.Writing.{before_index, escape, hex_letter, is_bare, json_of, lines_text, member_text, object_text, records_of, records_text, string_of, value_of};
 ghost use Rattle.tabled_json.specs.declared.form.Layout.TheVariants.{Array};
@@ -15,12 +15,12 @@ use crate::fault::WriteError;
 use crate::form::{Layout, Values};
 use crate::keyed::check;
 use crate::number::is_number;
-use crate::rows::{Rows, Stored};
 use crate::string::is_plain;
 use std::alloc::Global;
 use std::io::Write;
 use tabled_grid::records::{CellText, ExactRecords, PeekableRecords, Records};
 use tabled_held::{Held, Pen};
+use tabled_texts::{Rows, Stored};
 
 /// A hexadecimal digit.
 fn hex_letter(value: u8) -> u8

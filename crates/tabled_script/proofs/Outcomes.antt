@@ -3,7 +3,7 @@ use Rattle.std.specs.Io.KnownBytes.{Appends}
 use Rattle.std.specs.Prelude.{Bool, String, false, true}
 use Rattle.tabled_language.proofs.EndedLines.{parse_between-alone}
 use Rattle.std.specs.Borrow.{Bor}
-use Rattle.tabled_csv.specs.Texts.{rows_of}
+use Rattle.tabled_texts.specs.Texts.{rows_of}
 use Rattle.tabled_language.specs.Parsing.{cell_texts}
 use Rattle.tabled_language.specs.Script.{parse, parse_between}
 use Rattle.tabled_language.specs.declared.fault.Fault.{Fault}

@@ -3,7 +3,7 @@
 ghost use Rattle.std.specs.Io.KnownBytes.{Appends};
 ghost use Rattle.std.specs.Prelude.{IfErr, MatchResult, OnOk};
 ghost use Rattle.tabled_csv.specs.Grammar.{IsCsv};
-ghost use Rattle.tabled_csv.specs.Texts.{rows_of};
+ghost use Rattle.tabled_texts.specs.Texts.{rows_of};
 ghost use Rattle.tabled_csv.specs.Writing.{csv_of};
 ghost use Rattle.tabled_grid.specs.Grid.{IsEven, grid_of, map_items};
 ghost use Rattle.tabled_script.specs.InMemory.{texts_by};
@@ -15,8 +15,9 @@ use crate::inputs::{RowsError, SourceFault};
 use crate::outcome::{Outcome, Unwritten};
 use std::alloc::Global;
 use std::io::Write;
-use tabled_csv::{Dialect, ReadError, Separator, Spare, WriteError, read_with, write_records};
+use tabled_csv::{Dialect, ReadError, Separator, WriteError, read_with, write_records};
 use tabled_grid::records::CellText;
+use tabled_texts::Spare;
 
 /// Writes the texts of a table as CSV, and flushes the writer. All memory is asked for before the first byte: refused,
 /// nothing is written.

@@ -1,7 +1,7 @@
 //! The table that a script ends with, written.
 
 ghost use Rattle.std.specs.Prelude.{◌≡◌, IfOk, IsTrue};
-ghost use Rattle.tabled_csv.specs.Texts.{rows_of, text_of};
+ghost use Rattle.tabled_texts.specs.Texts.{rows_of, text_of};
 ghost use Rattle.tabled_grid.specs.Grid.{IsEven, grid_of, map_items};
 ghost use Rattle.tabled_grid.specs.Spans.{empty};
 ghost use Rattle.tabled_language.specs.Parsing.{cell_texts};

@@ -4,7 +4,7 @@ ghost use Rattle.std.specs.Cmp.Lexicographic.{pointwise};
 ghost use Rattle.std.specs.Prelude.{◌≡◌, IfOk, MatchResult, Some, map};
 ghost use Rattle.std.specs.Str.{bytes_eq};
 ghost use Rattle.std.specs.String.{string_bytes};
-ghost use Rattle.tabled_csv.specs.Texts.{rows_of, text_of};
+ghost use Rattle.tabled_texts.specs.Texts.{rows_of, text_of};
 ghost use Rattle.tabled_language.specs.Lent.{texts_in_records, texts_in_row};
 ghost use Rattle.tabled_language.specs.Parsing.{cell_texts};
 ghost use Rattle.tabled_script.specs.Inputs.{HasRows, HasTable, NoRowsIn, NoTable, NotBehind, behind};
@@ -14,9 +14,9 @@ use crate::csv_form::csv_rows;
 use crate::json_form::json_rows;
 use crate::outcome::{FAULTY, OUT_OF_MEMORY};
 use crate::request::{Format, Source};
-use crate::room::{Rooms, Spares};
 use std::alloc::{AllocError, Global};
 use tabled_language::LentText;
+use tabled_texts::{Room, Spare};
 
 /// What is wrong with a file of rows.
 #[derive(Clone, Copy)]
@@ -75,18 +75,18 @@ impl SourcesError<'_> {
 pub(crate) fn rows_of_sources<'a>(
     alloc: Global,
     sources: &'a [Source],
-    rooms: &'a mut Rooms,
+    room: &'a mut Room,
 ) -> Result<Vec<Vec<&'a str>>, SourcesError<'a>>
     ensures { MatchResult result (λ rows. HasTable sources.now (rows_of rows.items)) (NoTable sources.now) }
 {
-    let mut spares = rooms.spares();
+    let mut spare = Spare::new(room);
     let mut rows = Vec::new(alloc);
     let mut index = 0;
     // The file whose first row is that of the rows.
     let mut of = 0;
     for source in sources {
         of = first_of(&rows, index, of);
-        match rows_of(alloc, source, &mut spares) {
+        match rows_of(alloc, source, &mut spare) {
             Ok(others) => match joined(rows, others, of) {
                 Ok(all) => rows = all,
                 Err(error) => return Err(SourcesError::Unjoined(index, error)),
@@ -107,13 +107,13 @@ fn first_of(rows: &[Vec<&str>], index: usize, of: usize) -> usize {
 fn rows_of<'a>(
     alloc: Global,
     source: &'a Source,
-    spares: &mut Spares<'a>,
+    spare: &mut Spare<'a>,
 ) -> Result<Vec<Vec<&'a str>>, RowsError>
     ensures { MatchResult result (λ rows. HasRows source.now (rows_of rows.items)) (NoRowsIn source.now.format source.now.bytes.items) }
 {
     match source.format {
-        Format::Csv(dialect) => csv_rows(alloc, dialect, &source.bytes, &mut spares.csv),
-        Format::Json => json_rows(alloc, &source.bytes, &mut spares.json),
+        Format::Csv(dialect) => csv_rows(alloc, dialect, &source.bytes, spare),
+        Format::Json => json_rows(alloc, &source.bytes, spare),
     }
 }
 

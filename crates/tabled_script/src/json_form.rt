@@ -4,7 +4,7 @@ ghost use Rattle.std.specs.Io.KnownBytes.{Appends};
 ghost use Rattle.std.specs.Prelude.{IfErr, MatchResult, OnOk};
 ghost use Rattle.tabled_grid.specs.Grid.{IsEven, grid_of, map_items};
 ghost use Rattle.tabled_json.specs.Meanings.{MeansTable};
-ghost use Rattle.tabled_json.specs.Texts.{rows_of};
+ghost use Rattle.tabled_texts.specs.Texts.{rows_of};
 ghost use Rattle.tabled_json.specs.Writes.{AreKeyed};
 ghost use Rattle.tabled_json.specs.Writing.{json_of};
 ghost use Rattle.tabled_script.specs.InMemory.{texts_by};
@@ -18,7 +18,8 @@ use crate::outcome::{Outcome, Unwritten};
 use std::alloc::Global;
 use std::io::Write;
 use tabled_grid::records::CellText;
-use tabled_json::{Layout, ReadError, Spare, Values, WriteError, read_table_with, write_records};
+use tabled_json::{Layout, ReadError, Values, WriteError, read_table_with, write_records};
+use tabled_texts::Spare;
 
 /// A key that stands in two columns of the first row, which are counted from 0.
 #[derive(Drop)]

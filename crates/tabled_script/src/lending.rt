@@ -1,7 +1,7 @@
 //! Rows of texts as records, which lend them.
 
 ghost use Rattle.std.specs.Prelude.{◌≡◌, IfOk, map};
-ghost use Rattle.tabled_json.specs.Texts.{rows_of, text_of};
+ghost use Rattle.tabled_texts.specs.Texts.{rows_of, text_of};
 ghost use Rattle.tabled_language.specs.Lent.{texts_in_records, texts_in_row};
 
 use std::alloc::{AllocError, Global};

@@ -27,7 +27,6 @@ mod program;
 mod reading;
 mod refusal;
 mod request;
-mod room;
 mod script_form;
 mod setting;
 mod stray_options;

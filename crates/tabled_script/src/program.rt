@@ -20,13 +20,13 @@ use crate::notes::Notes;
 use crate::outcome::{DONE, FAILED, FAULTY, OUT_OF_MEMORY, Outcome, Unwritten, status_with_notes};
 use crate::reading::{Unread, read_whole};
 use crate::request::Request;
-use crate::room::Rooms;
 use crate::stray_options::tell_stray_options;
 use crate::telling::{LineOrigins, tell_outcome, tell_ragged, tell_sources_error, tell_status};
 use std::alloc::{AllocError, Global};
 use std::io::{self, Read, Write};
 use tabled_draw::Style;
 use tabled_language::Fault;
+use tabled_texts::Room;
 
 /// The line that is written where memory ran out.
 const MEMORY_LINE: &[u8] = b"out of memory\n";
@@ -110,15 +110,15 @@ pub fn answer<W: Write, E: Write>(
     ensures faulty { result ≡ faulty → (W.contents writer.new ≡ W.contents writer.old) × FindsNoTable request.now script.now }
     ensures memory { result ≡ out_of_memory → W.contents writer.new ≡ W.contents writer.old }
 {
-    let mut rooms = match Rooms::new(alloc) {
-        Ok(rooms) => rooms,
+    let mut room = match Room::new(alloc) {
+        Ok(room) => room,
         Err(_) => {
             tell_status(OUT_OF_MEMORY, errors);
             return OUT_OF_MEMORY;
         }
     };
     let sources = request.sources.as_slice();
-    match rows_of_sources(alloc, sources, &mut rooms) {
+    match rows_of_sources(alloc, sources, &mut room) {
         Ok(rows) => {
             let lines = LineOrigins {
                 rows: rows.len(),

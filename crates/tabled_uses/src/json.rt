@@ -2,7 +2,7 @@
 
 ghost use Rattle.std.specs.Io.KnownBytes.{Appends};
 ghost use Rattle.std.specs.Prelude.{OnOk};
-ghost use Rattle.tabled_json.specs.Texts.{cells_by, rows_by};
+ghost use Rattle.tabled_texts.specs.Texts.{cells_by, rows_by};
 ghost use Rattle.tabled_json.specs.Writing.{json_of};
 ghost use Rattle.tabled_json.specs.declared.form.Layout.TheVariants.{Array, Lines};
 ghost use Rattle.tabled_json.specs.declared.form.Values.TheVariants.{Bare, Strings};

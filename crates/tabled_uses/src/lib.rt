@@ -21,5 +21,6 @@ pub mod settings;
 mod spelling;
 pub mod steps;
 pub mod stores;
+pub mod texts;
 pub mod widths;
 pub mod writers;

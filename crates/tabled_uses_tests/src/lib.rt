@@ -6,7 +6,6 @@ mod covers;
 #[cfg(test)]
 mod fitting;
 #[cfg(test)]
-#[cfg(test)]
 mod places;
 #[cfg(test)]
 mod rows;
@@ -18,3 +17,5 @@ mod steps;
 mod store_calls;
 #[cfg(test)]
 mod stores;
+#[cfg(test)]
+mod texts;

@@ -1,10 +1,11 @@
 use Rattle.tabled_csv.proofs.Common.{[], ◌++◌, ◌<◌, ◌∙◌, ◌∷◌, ◌≡◌, ap, err_from_is_err_and, length, map-append}
-use Rattle.tabled_csv.specs.Texts.{rows_by, texts_by}
+use Rattle.tabled_texts.specs.Texts.{rows_by, texts_by}
 use Rattle.tabled_csv.proofs.Lines.{behind-blank, lines-at, some-rows}
-use Rattle.tabled_csv.proofs.Progress.{blank-read, faulty-at, filled-at, no-bytes, no-row-read, not-read, record-shorter, row-read, rows-read, some-bytes}
+use Rattle.tabled_csv.proofs.Progress.{blank-read, filled-at, no-bytes, no-row-read, not-read, record-shorter, row-read, rows-read, some-bytes}
 use Rattle.tabled_csv.specs.Reading.{LinesFault, RecordFault}
 use Rattle.tabled_csv.proofs.Writes.{any-err}
 use Rattle.tabled_csv.proofs.Utf8Parts.{after-blank, after-record}
+use Rattle.tabled_texts.proofs.Reading.{shows-from}
 use Rattle.tabled_csv.proofs.reading.lines.Goals as goal
 
 pub lines-preserved-in-Some : goal.lines-preserved-in-Some
@@ -16,7 +17,7 @@ returns-in_err-row-in-None-clause-read g c =
     let s = c.args.dialect in
     let rest = c.lines.rest.now in
     rw (p.1, p.2)
-    (faulty-at (RecordFault s rest) (LinesFault s c.args.bytes.now) c.in_err-row-in-None.field-0.0
+    (shows-from (RecordFault s rest) (LinesFault s c.args.bytes.now) c.in_err-row-in-None.field-0.0
     (not-read s c.requires.separator c.args.bytes.now rest (rows_by g.T.CellText.text_of c.lines.rows.items) c.lines.invariant.read
     (filled-at rest (some-bytes rest c.lines-test.ensures) c.in-None.ensures))
     c.in_err-row-in-None.ensures)

@@ -1,7 +1,7 @@
 use Rattle.tabled_csv.proofs.Common.{[], IsTrue, IsUtf8, length}
 use Rattle.tabled_csv.proofs.Lines.{LinesAt}
 use Rattle.tabled_csv.proofs.Progress.{RowsRead}
-use Rattle.tabled_csv.specs.Texts.{rows_by}
+use Rattle.tabled_texts.specs.Texts.{rows_by}
 use Rattle.tabled_csv.proofs.reading.lines.Given as goal
 
 abbrev pub invariant-lines : goal.invariant-lines

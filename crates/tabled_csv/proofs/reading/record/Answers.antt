@@ -1,9 +1,10 @@
 use Rattle.tabled_csv.proofs.Common.{[], ◌++◌, ◌∙◌, ◌∷◌, ◌≡◌, ap, err_from_is_err_and, map, map-append}
-use Rattle.tabled_csv.proofs.Progress.{faulty-at, field-read, no-field-read, none-read}
+use Rattle.tabled_csv.proofs.Progress.{field-read, no-field-read, none-read}
 use Rattle.tabled_csv.specs.Faults.{FaultAt}
 use Rattle.tabled_csv.specs.Reading.{RecordFault}
 use Rattle.tabled_csv.proofs.Utf8Parts.{after-field}
 use Rattle.tabled_csv.specs.declared.stop.Stop.TheVariants.{Separator}
+use Rattle.tabled_texts.proofs.Reading.{shows-from}
 use Rattle.tabled_csv.proofs.reading.record.Goals as goal
 
 pub returns-in_err-text : goal.returns-in_err-text
@@ -11,7 +12,7 @@ returns-in_err-text g c =
     let p = err_from_is_err_and c.from_residual-in_err-text.result c.from_residual-in_err-text.ensures.1 in
     let s = c.args.dialect in
     rw (p.1, p.2)
-    (faulty-at (FaultAt s c.fields.rest.now) (RecordFault s c.args.bytes.now) c.in_err-text.field-0.0
+    (shows-from (FaultAt s c.fields.rest.now) (RecordFault s c.args.bytes.now) c.in_err-text.field-0.0
     (none-read s c.args.bytes.now c.fields.rest.now (map g.T.CellText.text_of c.fields.row.items) c.fields.invariant.read c.requires.separator) c.in_err-text.ensures)
 
 pub fields-preserved : goal.fields-preserved

@@ -3,7 +3,7 @@ use Rattle.std.proofs.lemmas.Option.{get_or_from_slice_get}
 use Rattle.tabled_json.proofs.Columns.{found-at, found-inside, with-new}
 use Rattle.tabled_json.proofs.Common.{◌+◌, ◌<◌, ◌≡◌, ◌∷◌, ◌∙◌, ◌++◌, [], ℕ, List, None, Some, ap, arith, length, sym, take}
 use Rattle.tabled_json.specs.Tables.{find_key, with_key}
-use Rattle.tabled_json.specs.Texts.{row_at}
+use Rattle.tabled_texts.specs.Texts.{row_at}
 use Rattle.tabled_json.proofs.keyed.check_keys.Goals as goal
 
 pub returns-in-Some-clause-why : goal.returns-in-Some-clause-why

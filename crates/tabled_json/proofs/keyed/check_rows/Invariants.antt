@@ -1,5 +1,5 @@
 use Rattle.tabled_json.proofs.Common.{◌<◌, ◌≤◌, ℕ, length}
-use Rattle.tabled_json.specs.Texts.{row_at}
+use Rattle.tabled_texts.specs.Texts.{row_at}
 use Rattle.tabled_json.proofs.keyed.check_rows.Given as goal
 
 abbrev pub invariant-loop-i : goal.invariant-loop-i

@@ -1,6 +1,6 @@
 use Rattle.tabled_json.proofs.Faulty.{records-none, table-none}
-use Rattle.tabled_json.specs.Records.{behind_mark}
 use Rattle.tabled_json.proofs.laws.faulty_bytes_mean_nothing.Goals as goal
+use Rattle.tabled_texts.specs.Marks.{behind_mark}
 
 pub returns : goal.returns
 returns c bytes = record {

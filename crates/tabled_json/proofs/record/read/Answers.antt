@@ -3,8 +3,9 @@ use Rattle.tabled_json.proofs.Faulty.{records-none}
 use Rattle.tabled_json.proofs.Told.{at-fault-from, told-shows}
 use Rattle.tabled_json.specs.Faults.{IsFault, RecordsFault}
 use Rattle.tabled_json.specs.Places.{AtFault, IsPlace}
-use Rattle.tabled_json.specs.Records.{MeansNoRecords, behind_mark}
+use Rattle.tabled_json.specs.Records.{MeansNoRecords}
 use Rattle.tabled_json.proofs.record.read.Goals as goal
+use Rattle.tabled_texts.specs.Marks.{behind_mark}
 
 pub returns-clause-fault : goal.returns-clause-fault
 returns-clause-fault c = told-shows RecordsFault c.args.bytes.now c.behind_mark-text.result.now c.in-Err.error c.told.result c.behind_mark-text.ensures c.told.ensures.is c.in-Err.ensures

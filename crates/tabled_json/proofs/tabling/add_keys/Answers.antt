@@ -1,7 +1,7 @@
 use Rattle.tabled_json.proofs.Common.{◌∙◌}
 use Rattle.tabled_json.proofs.Taken.{members-next}
 use Rattle.tabled_json.specs.Records.{member_of}
-use Rattle.tabled_json.specs.Texts.{texts_of}
+use Rattle.tabled_texts.specs.Texts.{texts_of}
 use Rattle.tabled_json.proofs.tabling.add_keys.Goals as goal
 
 pub loop-member-preserved : goal.loop-member-preserved

@@ -1,7 +1,7 @@
 use Rattle.tabled_json.proofs.Common.{◌≡◌, take}
 use Rattle.tabled_json.specs.Records.{list_of}
 use Rattle.tabled_json.specs.Tables.{AreListed, with_members}
-use Rattle.tabled_json.specs.Texts.{texts_of}
+use Rattle.tabled_texts.specs.Texts.{texts_of}
 use Rattle.tabled_json.proofs.tabling.add_keys.Given as goal
 
 abbrev pub invariant-loop-member : goal.invariant-loop-member

@@ -1,6 +1,6 @@
 use Rattle.tabled_json.proofs.Common.{◌∷◌, ◌∙◌, ◌++◌, [], ℕ, List, ap, map, map-append}
 use Rattle.tabled_json.proofs.Taken.{one-text-more}
-use Rattle.tabled_json.specs.Texts.{text_of}
+use Rattle.tabled_texts.specs.Texts.{text_of}
 use Rattle.tabled_json.proofs.tabling.blanks.Goals as goal
 
 pub loop-key-preserved : goal.loop-key-preserved

@@ -6,7 +6,7 @@ use Rattle.tabled_json.proofs.Parts.{length-map}
 use Rattle.tabled_json.proofs.Taken.{put-next, skip-next}
 use Rattle.tabled_json.specs.Records.{list_of, member_of}
 use Rattle.tabled_json.specs.Tables.{last_text}
-use Rattle.tabled_json.specs.Texts.{text_of, texts_of}
+use Rattle.tabled_texts.specs.Texts.{text_of, texts_of}
 use Rattle.tabled_json.proofs.tabling.fill.Goals as goal
 use Rattle.tabled_json.proofs.tabling.fill.Goals.{in-Some, in_default}
 

@@ -1,7 +1,7 @@
 use Rattle.tabled_json.proofs.Common.{◌≡◌, take}
 use Rattle.tabled_json.specs.Records.{all_of}
 use Rattle.tabled_json.specs.Tables.{AreListed, keys_of}
-use Rattle.tabled_json.specs.Texts.{texts_of}
+use Rattle.tabled_texts.specs.Texts.{texts_of}
 use Rattle.tabled_json.proofs.tabling.keys_of.Given as goal
 
 abbrev pub invariant-loop-object : goal.invariant-loop-object

@@ -2,8 +2,8 @@ use Rattle.tabled_json.proofs.Faulty.{table-none}
 use Rattle.tabled_json.proofs.Told.{at-fault-from, told-shows}
 use Rattle.tabled_json.specs.Faults.{IsTableFault, TableFault}
 use Rattle.tabled_json.specs.Meanings.{MeansNoTable}
-use Rattle.tabled_json.specs.Records.{behind_mark}
 use Rattle.tabled_json.proofs.tabling.read_table_with.Goals as goal
+use Rattle.tabled_texts.specs.Marks.{behind_mark}
 
 pub returns-in-Err-clause-none : goal.returns-in-Err-clause-none
 returns-in-Err-clause-none c =

@@ -1,7 +1,7 @@
 use Rattle.tabled_json.proofs.Common.{◌≡◌, map, take}
 use Rattle.tabled_json.specs.Records.{all_of}
 use Rattle.tabled_json.specs.Tables.{row_of}
-use Rattle.tabled_json.specs.Texts.{rows_of, texts_of}
+use Rattle.tabled_texts.specs.Texts.{rows_of, texts_of}
 use Rattle.tabled_json.proofs.tabling.table.Given as goal
 
 abbrev pub invariant-loop-object : goal.invariant-loop-object

@@ -3,13 +3,13 @@ use Rattle.tabled_json.proofs.Common.{◌≡◌, ◌∙◌, Bor, List, ℕ, ap, 
 use Rattle.tabled_json.specs.Faults.{ArrayFault, RecordsFault, RowFault, TableFault}
 use Rattle.tabled_json.specs.Grammar.{AreRows, RowAt}
 use Rattle.tabled_json.specs.Meanings.{HoldsTable, begins_rows}
-use Rattle.tabled_json.specs.Reading.{Shows}
 use Rattle.tabled_json.specs.Records.{members_of}
 use Rattle.tabled_json.specs.Space.{behind_space}
 use Rattle.tabled_json.specs.Tables.{table_of}
-use Rattle.tabled_json.specs.Texts.{rows_of}
+use Rattle.tabled_texts.specs.Texts.{rows_of}
 use Rattle.tabled_json.specs.declared.member.Member.{Member}
 use Rattle.tabled_json.proofs.tabling.whole_table.Goals as goal
+use Rattle.tabled_texts.specs.Reading.{Shows}
 
 pub returns-then-begins_rows : goal.returns-then-begins_rows
 returns-then-begins_rows c =

@@ -2,7 +2,7 @@ use Rattle.std.specs.List.{zip}
 use Rattle.tabled_held.proofs.Pens.{sends-as, sends-then}
 use Rattle.tabled_json.proofs.Common.{◌+◌, ◌-◌, ◌<◌, ◌∙◌, ◌≡◌, ℕ, ap, arith, length, take}
 use Rattle.tabled_json.proofs.Parts.{all-records, lines-next, record-get}
-use Rattle.tabled_json.specs.Texts.{row_at}
+use Rattle.tabled_texts.specs.Texts.{row_at}
 use Rattle.tabled_json.specs.Writing.{lines_text, records_of}
 use Rattle.tabled_json.proofs.writing.write_lines.Goals as goal
 

@@ -6,7 +6,7 @@ use Rattle.std.specs.Prelude.{min}
 use Rattle.tabled_held.proofs.Pens.{sends-as, sends-then}
 use Rattle.tabled_json.proofs.Common.{◌++◌, ◌∙◌, ◌∷◌, ◌≡◌, [], ℕ, List, ap, arith, length, map, sym, take}
 use Rattle.tabled_json.proofs.Parts.{parted-next, zip-get}
-use Rattle.tabled_json.specs.Texts.{row_at}
+use Rattle.tabled_texts.specs.Texts.{row_at}
 use Rattle.tabled_json.specs.Writing.{member_text, parted}
 use Rattle.tabled_json.proofs.writing.write_object.Goals as goal
 

@@ -1,7 +1,7 @@
 use Rattle.std.specs.List.{zip}
 use Rattle.tabled_held.specs.Pens.{Sends}
 use Rattle.tabled_json.proofs.Common.{◌∷◌, [], map, take}
-use Rattle.tabled_json.specs.Texts.{row_at}
+use Rattle.tabled_texts.specs.Texts.{row_at}
 use Rattle.tabled_json.specs.Writing.{member_text, parted}
 use Rattle.tabled_json.proofs.writing.write_object.Given as goal
 

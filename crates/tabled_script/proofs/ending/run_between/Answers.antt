@@ -1,5 +1,5 @@
 use Rattle.std.specs.Borrow.{Bor}
-use Rattle.tabled_csv.specs.Texts.{rows_of, text_of}
+use Rattle.tabled_texts.specs.Texts.{rows_of, text_of}
 use Rattle.tabled_grid.specs.Grid.{IsEven}
 use Rattle.tabled_json.proofs.Lines.{empty-is}
 use Rattle.tabled_language.proofs.AllTold.{no_items}

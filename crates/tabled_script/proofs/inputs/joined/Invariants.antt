@@ -1,6 +1,6 @@
 use Rattle.std.specs.Prelude.{◌≡◌, ◌++◌, length}
 use Rattle.std.specs.Vec.Iter.{into_iter_items, into_iter_len}
-use Rattle.tabled_csv.specs.Texts.{rows_of}
+use Rattle.tabled_texts.specs.Texts.{rows_of}
 use Rattle.tabled_script.proofs.inputs.joined.Given as goal
 
 abbrev pub invariant-loop-row : goal.invariant-loop-row

@@ -1,5 +1,5 @@
 use Rattle.std.proofs.Common.{ap, ◌+◌}
-use Rattle.tabled_csv.specs.Texts.{rows_of}
+use Rattle.tabled_texts.specs.Texts.{rows_of}
 use Rattle.tabled_script.proofs.Tables.{table_more, unjoined, unread}
 use Rattle.tabled_script.proofs.inputs.rows_of_sources.Goals as goal
 

@@ -1,5 +1,5 @@
 use Rattle.std.specs.Prelude.{◌≡◌, take}
-use Rattle.tabled_csv.specs.Texts.{rows_of}
+use Rattle.tabled_texts.specs.Texts.{rows_of}
 use Rattle.tabled_script.specs.Inputs.{HasTable}
 use Rattle.tabled_script.proofs.inputs.rows_of_sources.Given as goal
 

@@ -1,5 +1,5 @@
 use Rattle.std.specs.Prelude.{◌≡◌, map, take}
-use Rattle.tabled_json.specs.Texts.{text_of}
+use Rattle.tabled_texts.specs.Texts.{text_of}
 use Rattle.tabled_language.specs.Lent.{texts_in_row}
 use Rattle.tabled_script.proofs.lending.lent_row.Given as goal
 

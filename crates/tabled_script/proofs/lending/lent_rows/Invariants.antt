@@ -1,6 +1,6 @@
 use Rattle.std.specs.Prelude.{◌≡◌, ◌++◌, length}
 use Rattle.std.specs.Vec.Iter.{into_iter_items, into_iter_len}
-use Rattle.tabled_json.specs.Texts.{rows_of}
+use Rattle.tabled_texts.specs.Texts.{rows_of}
 use Rattle.tabled_language.specs.Lent.{texts_in_records}
 use Rattle.tabled_script.proofs.lending.lent_rows.Given as goal
 

@@ -1,4 +1,4 @@
-use Rattle.tabled_csv.specs.Texts.{rows_of}
+use Rattle.tabled_texts.specs.Texts.{rows_of}
 use Rattle.tabled_language.specs.Parsing.{cell_texts}
 use Rattle.tabled_language.specs.Script.{parse_between}
 use Rattle.tabled_script.proofs.Common.{◌∙◌, IfSome_then, subst}

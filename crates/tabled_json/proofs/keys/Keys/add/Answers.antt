@@ -6,7 +6,7 @@ use Rattle.tabled_json.proofs.Common.{◌≡◌, ◌∷◌, ◌∙◌, ◌++◌,
 use Rattle.tabled_json.proofs.Parts.{length-map}
 use Rattle.tabled_json.proofs.Tabled.{distinct-more}
 use Rattle.tabled_json.specs.Tables.{AreDistinct, find_key}
-use Rattle.tabled_json.specs.Texts.{text_of, texts_of}
+use Rattle.tabled_texts.specs.Texts.{text_of, texts_of}
 use Rattle.tabled_json.proofs.keys.Keys.add.Goals as goal
 
 pub returns-in_ok-push-clause-with : goal.returns-in_ok-push-clause-with

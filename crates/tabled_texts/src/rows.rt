@@ -1,13 +1,15 @@
 //! Rows of texts, in vectors or in a store.
 
 ghost use Rattle.std.specs.Prelude.{◌≡◌, ◌<◌, ℕ, List, Some, length, slice_get};
-ghost use Rattle.tabled_json.specs.Texts.{cells_by, row_at, rows_by};
+ghost use Rattle.tabled_texts.specs.Texts.{cells_by, row_at, rows_by};
 
 use tabled_grid::config::Position;
 use tabled_grid::records::{CellText, ExactRecords, PeekableRecords, Records};
 
-/// Rows of texts.
-pub(crate) trait Rows {
+/// Rows of texts, which may differ in length.
+///
+/// Of this project.
+pub trait Rows {
     /// The texts.
     ghost texts: { Self → List (List (List ℕ)) };
 
@@ -51,10 +53,12 @@ impl<'a, T: CellText> Rows for &'a [Vec<T>] {
     }
 }
 
-/// The rows of a store.
+/// The rows of a store (`r x c`): `r` rows of `c` texts.
+///
+/// Of this project.
 #[derive(Drop)]
-pub(crate) struct Stored<'a, R> {
-    pub(crate) records: &'a R,
+pub struct Stored<'a, R> {
+    pub records: &'a R,
 }
 
 impl<'a, R> Rows for Stored<'a, R>

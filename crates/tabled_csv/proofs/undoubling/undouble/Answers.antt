@@ -1,8 +1,8 @@
 use Rattle.std.proofs.lemmas.List.{length-set, take_more_set}
 use Rattle.tabled_csv.proofs.Common.{◌+◌, ◌++◌, ◌==◌, ◌<◌, ◌∙◌, ◌∷◌, ◌≡◌, [], ap, append-nil, append_assoc, arith, drop, drop_more, drop_of_length-le, false, get_or, length, sym, take}
 use Rattle.tabled_csv.proofs.Closings.{undoubled, undoubled-doubled}
-use Rattle.tabled_csv.proofs.room.undouble.Goals as goal
-use Rattle.tabled_csv.proofs.room.undouble.Goals.{else-is_second, then-is_second}
+use Rattle.tabled_csv.proofs.undoubling.undouble.Goals as goal
+use Rattle.tabled_csv.proofs.undoubling.undouble.Goals.{else-is_second, then-is_second}
 
 pub loop-byte-preserved : goal.loop-byte-preserved
 loop-byte-preserved c =

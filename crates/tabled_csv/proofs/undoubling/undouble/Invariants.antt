@@ -1,6 +1,6 @@
 use Rattle.tabled_csv.proofs.Common.{◌≡◌, ◌≤◌, ◌++◌, drop, false, length, take}
 use Rattle.tabled_csv.proofs.Closings.{undoubled}
-use Rattle.tabled_csv.proofs.room.undouble.Given as goal
+use Rattle.tabled_csv.proofs.undoubling.undouble.Given as goal
 
 abbrev pub invariant-loop-byte : goal.invariant-loop-byte
 invariant-loop-byte l = record {

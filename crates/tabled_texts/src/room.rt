@@ -1,7 +1,6 @@
-//! Memory for texts in which quotes are doubled.
+//! Memory for texts that are lent.
 
-ghost use Rattle.std.specs.Prelude.{◌≡◌, ◌≤◌, ℕ, List, IfOk, OnOk, length, take};
-ghost use Rattle.tabled_csv.specs.Grammar.{doubled};
+ghost use Rattle.std.specs.Prelude.{◌≡◌, ◌≤◌, IfOk, IsOk, OnErr, OnOk, length};
 
 use std::alloc::{AllocError, Global};
 use std::marker::Model;
@@ -13,8 +12,8 @@ const FIRST: usize = 4096;
 /// How many parts there are: all of them together would be longer than any memory.
 const PARTS: usize = 64;
 
-/// Memory for texts that don't stand in what is read as they are, since a quote is doubled in them. It is lent to them,
-/// and is asked for as they are read, in parts that are each twice as long as the one before.
+/// Memory for texts that don't stand in what is read as they are. It is lent to them, and is asked for as they are made, in
+/// parts that are each twice as long as the one before.
 ///
 /// Of this project.
 #[derive(Drop)]
@@ -68,7 +67,10 @@ impl<'a> Spare<'a> {
 
     /// Sees to it that so many bytes can be had.
     fn hold(&mut self, len: usize) -> Result<(), AllocError>
-        ensures { OnOk result (len ≤ self.new) }
+        ensures held { OnOk result (len ≤ self.new) }
+        ensures same { OnOk result (len ≤ self.old → self.new ≡ self.old) }
+        ensures promised { len ≤ self.old → IsOk result }
+        ensures refused { OnErr result (self.new ≡ self.old) }
     {
         if len <= self.bytes.len() {
             return Ok(());
@@ -83,35 +85,29 @@ impl<'a> Spare<'a> {
         Ok(())
     }
 
-    /// Bytes with one quote for two.
-    pub(crate) fn undoubled(&mut self, bytes: &[u8]) -> Result<&'a [u8], AllocError>
-        ensures { IfOk result (λ found. (text : List ℕ) → bytes.now ≡ doubled text → found.now ≡ text) }
-    {
-        self.hold(bytes.len())?;
-        let room = mem::take(&mut self.bytes);
-        let len = undouble(bytes, room);
-        let (text, left) = room.split_at_mut(len);
-        self.bytes = left;
-        Ok(text)
-    }
-}
+    /// Bytes for a text that is at most so long: as many, or more, of which those that it leaves are given back. Refused,
+    /// as many can be had as before.
+    ///
+    /// Of this project.
+    pub fn take(&mut self, len: usize) -> Result<&'a mut [u8], AllocError>
+        ensures long { IfOk result (λ bytes. len ≤ length bytes.now) }
+        ensures taken { OnOk result (self.new ≡ 0) }
 
-/// Writes bytes with one quote for two to the front of a room, and says how many they are.
-fn undouble(bytes: &[u8], room: &mut [u8]) -> usize
-    requires { length bytes.now ≤ length room.old }
-    ensures inside { result ≤ length room.new }
-    ensures text { (text : List ℕ) → bytes.now ≡ doubled text → take result room.new ≡ text }
-{
-    let mut len = 0;
-    let mut is_second = false;
-    for byte in bytes {
-        if is_second {
-            is_second = false;
-        } else {
-            room[len] = *byte;
-            len += 1;
-            is_second = *byte == b'"';
-        }
+        // Where so many can be had, they are all that can be, and no memory is taken.
+        ensures all { IfOk result (λ bytes. len ≤ self.old → length bytes.now ≡ self.old) }
+        ensures promised { len ≤ self.old → IsOk result }
+        ensures refused { OnErr result (self.new ≡ self.old) }
+    {
+        self.hold(len)?;
+        Ok(mem::take(&mut self.bytes))
     }
-    len
+
+    /// Takes back the bytes that a text left.
+    ///
+    /// Of this project.
+    pub fn give_back(&mut self, bytes: &'a mut [u8])
+        ensures { self.new ≡ length bytes.entry.now }
+    {
+        self.bytes = bytes;
+    }
 }
