@@ -7,7 +7,7 @@ use Rattle.std.specs.Str.{bytes_eq}
 use Rattle.std.specs.String.{string_bytes}
 use Rattle.tabled_language.specs.Word.{length_of}
 use Rattle.tabled_script.specs.Aligners.{aligning, is_equals}
-use Rattle.tabled_script.specs.Settings.{drawn_named, forms, is_csv, named_in, options, read_by, separator_of, takes_value}
+use Rattle.tabled_script.specs.Settings.{drawn_named, forms, is_csv, named_in, names_file, names_input, options, read_by, separator_of, takes_value}
 use Rattle.tabled_script.specs.declared.arguments.Next.{Next}
 use Rattle.tabled_script.specs.declared.arguments.Next.TheVariants as next
 use Rattle.tabled_script.specs.declared.refusal.Misuse.{Misuse}
@@ -69,19 +69,6 @@ is_set setting.Checks asked = asked.checks_steps
 -- the file of this name is standard input
 abbrev pub is_input : List ℕ → Bool
 is_input name = bytes_eq name (codes "-")
-
--- the setting's value names a file that is read
-abbrev pub names_input : Setting → Bool
-names_input (setting.Rows kind) = true
-names_input setting.Script = true
-names_input other = false
-
--- the setting's value names a file
-abbrev pub names_file : Setting → Bool
-names_file (setting.Rows kind) = true
-names_file setting.Script = true
-names_file setting.Output = true
-names_file other = false
 
 -- the word is an option
 abbrev pub is_option : List ℕ → Bool

@@ -85,6 +85,19 @@ takes_value setting.Strings = false
 takes_value setting.Checks = false
 takes_value other = true
 
+-- the setting's value names a file that is read
+abbrev pub names_input : Setting → Bool
+names_input (setting.Rows kind) = true
+names_input setting.Script = true
+names_input other = false
+
+-- the setting's value names a file
+abbrev pub names_file : Setting → Bool
+names_file (setting.Rows kind) = true
+names_file setting.Script = true
+names_file setting.Output = true
+names_file other = false
+
 -- what a picture is drawn in by a name: Markdown with its texts escaped, or the style of that name
 abbrev pub drawn_named : List ℕ → Option Drawn
 drawn_named name = if bytes_eq name (codes "markdown") then Some drawn.Markdown else option_map drawn.Style (style_named name)

@@ -4,7 +4,7 @@ ghost use Rattle.std.specs.Option.{option_map};
 ghost use Rattle.std.specs.Prelude.{◌≡◌, ◌++◌, IfOk, OnOk, map};
 ghost use Rattle.std.specs.String.{string_bytes};
 ghost use Rattle.tabled_script.specs.Aligners.{aligning};
-ghost use Rattle.tabled_script.specs.Arguments.{file_named, has_taken, is_input, is_option, is_set, leaves_no_text, names_file, names_input, reads_input_again, set_to, step_ended, step_of, taken, text_of_word, with_dashed, with_first_value, with_option, with_option_and_value, with_value, with_word, words_of};
+ghost use Rattle.tabled_script.specs.Arguments.{file_named, has_taken, is_input, is_option, is_set, leaves_no_text, reads_input_again, set_to, step_ended, step_of, taken, text_of_word, with_dashed, with_first_value, with_option, with_option_and_value, with_value, with_word, words_of};
 ghost use Rattle.tabled_script.specs.Refusals.{IsRefused, Takes};
 ghost use Rattle.tabled_script.specs.Requests.{nothing_asked};
 ghost use Rattle.tabled_script.specs.Settings.{named_in, options};
@@ -211,7 +211,7 @@ impl Arguments {
         if self.reads_input_again(setting, value) {
             return Err(misused(alloc, Misuse::InputRepeated, value));
         }
-        if names_file(setting) && is_option(value) {
+        if setting.names_file() && is_option(value) {
             return Err(misused(alloc, Misuse::OptionAsFile(setting), value));
         }
         self.with_first_value(alloc, setting, value)
@@ -239,7 +239,7 @@ impl Arguments {
     fn reads_input_again(&self, setting: Setting, value: &str) -> bool
         ensures { result ≡ reads_input_again setting value.now self.now }
     {
-        self.reads_input && names_input(setting) && is_input(value)
+        self.reads_input && setting.names_input() && is_input(value)
     }
 
     /// Sets a setting to what a value means.
@@ -374,23 +374,6 @@ fn misused(alloc: Global, misuse: Misuse, argument: &str) -> Refusal
         Ok(text) => Refusal::Misused(misuse, text),
         Err(_) => Refusal::OutOfMemory,
     }
-}
-
-/// Says whether the value of a setting names a file that is read.
-fn names_input(setting: Setting) -> bool
-    ensures { result ≡ names_input setting }
-{
-    matches!(setting, Setting::Rows(_) | Setting::Script)
-}
-
-/// Says whether the value of a setting names a file.
-fn names_file(setting: Setting) -> bool
-    ensures { result ≡ names_file setting }
-{
-    matches!(
-        setting,
-        Setting::Rows(_) | Setting::Script | Setting::Output
-    )
 }
 
 /// Says whether a word is an option.

@@ -2,7 +2,7 @@
 
 ghost use Rattle.std.specs.Option.{option_map};
 ghost use Rattle.std.specs.Prelude.{◌≡◌};
-ghost use Rattle.tabled_script.specs.Settings.{drawn_named, forms, is_csv, name_of, named_in, options, read_by, separator_of, takes_value};
+ghost use Rattle.tabled_script.specs.Settings.{drawn_named, forms, is_csv, name_of, named_in, names_file, names_input, options, read_by, separator_of, takes_value};
 ghost use Rattle.tabled_script.specs.declared.setting.Setting.TheVariants as setting;
 
 use tabled_csv::Separator;
@@ -162,6 +162,20 @@ impl Setting {
             self,
             Setting::Picture | Setting::NoQuotes | Setting::Strings | Setting::Checks
         )
+    }
+
+    /// Says whether its value names a file that is read.
+    pub(crate) fn names_input(self) -> bool
+        ensures { result ≡ names_input self }
+    {
+        matches!(self, Setting::Rows(_) | Setting::Script)
+    }
+
+    /// Says whether its value names a file.
+    pub(crate) fn names_file(self) -> bool
+        ensures { result ≡ names_file self }
+    {
+        matches!(self, Setting::Rows(_) | Setting::Script | Setting::Output)
     }
 }
 
