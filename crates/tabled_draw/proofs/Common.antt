@@ -22,11 +22,12 @@ pub use Rattle.tabled_held.specs.Pens.{Draws, IsDone, Sends}
 pub use Rattle.tabled_draw.specs.Picture.{Plan, border_line, bytes_of_lines, column_at, edge_at, heights, left, line_at, line_height, line_width, lines_of_row, owner_at, picture, picture_lines, plan_of, shows, shows_in, top, widths, with_newlines}
 pub use Rattle.tabled_draw.specs.Sizes.{Measured, asks, grown_for, grown_sizes, in_order, least, own, own_sizes, pad, raised, room, share, start_of, text_of_cell}
 pub use Rattle.tabled_draw.specs.Standing.{IsSeen, ShowsTexts, StandBetween, StandsAt, StandsFramed, StandsIn, indent_of, inner_height, inner_left, inner_line, inner_top, inner_width, is_amid, is_joined_above, is_joined_around, is_joined_beside, meeting, text_line}
-pub use Rattle.tabled_draw.specs.Texts.{ArePlain, IsLine, after_line, first_line, lines_shown, shown_character, shown_line, text_width, widest}
+pub use Rattle.tabled_draw.specs.Texts.{IsLine, after_line, first_line, lines_shown, shown_character, shown_line, text_width, widest}
 pub use Rattle.tabled_draw.specs.Unmerged.{AreUnmerged, IsBetween, level, line_between, marked, unmerged_corner, unmerged_stretch}
 pub use Rattle.tabled_draw.specs.declared.alignment.Alignment.{Alignment}
 pub use Rattle.tabled_held.specs.declared.pen.Pen.{Pen}
 pub use Rattle.tabled_draw.specs.declared.style.Style.{Style}
+pub use Rattle.tabled_width.specs.Plain.{ArePlain}
 pub use Rattle.tabled_draw.specs.declared.style.TheConstants.Style.{ASCII}
 pub use Rattle.tabled_grid.proofs.Common.{[], ◌++◌, ◌+◌, ◌-◌, ◌<◌, ◌∙◌, ◌∷◌, ◌≡◌, ◌≢◌, ◌≤◌, ◌⊎◌, AllByRecursion, AreSorted, Bool, Fits, Grid, In, IsInside, List, None, Option, Some, SpanMap, across, add-one, all-append, and_from, ap, ap₂, arith, cases_Bool, cases_eq, cases_lt, cell_at, common_steps, cond, cond-false, cond-true, count_along, eqb, false, false_from_ne_true, false≢true, find, fitting, get, get_or, get_or-set_other, get_or-set_same, get_or_append_left, get_or_default, holds, inl, inr, is_hidden_in, keep_fitting, le-leb, length, length-map, length-replicate, line_of, lines_in, list_any, lt-ltb, ltb-false, map, map-set, map_grid, map_of, max, nil_from_length, none-some, pairs, place, place_in, position_cmp, rectangle, rectangles, refl, replicate, replicate-append-replicate, same_Some, same_place, set, size_at, sized, subst, suc, sym, take, take_more, true, zero, ℕ}
 pub use Rattle.tabled_grid.proofs.Members.{Member, any-from, find-member, sorted-find}

@@ -3,7 +3,6 @@ use Rattle.tabled_draw.proofs.Common.{AllByRecursion, ArePlain, IsFineMark, List
 use Rattle.std.proofs.lemmas.List.Elements.{All-head, All-tail}
 pub use Rattle.tabled_width.proofs.Reading.{columns-blanks, cond-alike}
 use Rattle.tabled_width.proofs.Reading.{read-append, read-blank, read-shifted}
-use Rattle.unicode_width.proofs.Computing.{unicode_width}
 use Rattle.unicode_width.specs.Width.{Reading, alone, past_emoji, plain, read_before, step, str_width}
 
 pub columns-nil : text_width [] ≡ 0

@@ -4,14 +4,15 @@ ghost use Rattle.std.specs.Prelude.{◌≡◌, ◌-◌, IsTrue};
 ghost use Rattle.tabled_draw.specs.Alignments.{cell};
 ghost use Rattle.tabled_held.specs.Pens.{Draws};
 ghost use Rattle.tabled_draw.specs.Sizes.{asks};
-ghost use Rattle.tabled_draw.specs.Texts.{ArePlain, IsLine, after_line, first_line, shown_character, shown_line, text_width};
+ghost use Rattle.tabled_draw.specs.Texts.{IsLine, after_line, first_line, shown_character, shown_line, text_width};
 ghost use Rattle.tabled_grid.specs.declared.records.axis.Axis.TheVariants.{Rows, Columns};
+ghost use Rattle.tabled_width.specs.Plain.{ArePlain};
 
 use crate::alignment::{Alignment, indent};
 use std::io::Write;
 use tabled_grid::config::Size;
 use tabled_held::Pen;
-use tabled_width::columns_of;
+use tabled_width::{columns_of, is_plain};
 
 /// The character that is shown for one: for a control character another one, which can be seen.
 fn shown(c: char) -> char
@@ -23,34 +24,6 @@ fn shown(c: char) -> char
         '\u{80}'..='\u{9f}' => '\u{fffd}',
         _ => c,
     }
-}
-
-/// Says whether a text is one line of characters of one byte, each of which is shown as it is and takes one column.
-fn is_plain(text: &str) -> bool
-    ensures { IsTrue result → ArePlain text.now }
-{
-    let mut rest = text.as_bytes();
-    // A loop of eight steps is written out by the compiler, which takes half of the time.
-    while 8 <= rest.len() {
-        let (part, others) = rest.split_at(8);
-        if !are_plain(part) {
-            return false;
-        }
-        rest = others;
-    }
-    are_plain(rest)
-}
-
-/// Says whether each byte is such a character.
-#[inline(always)]
-fn are_plain(bytes: &[u8]) -> bool
-    ensures { IsTrue result → ArePlain bytes.now }
-{
-    let mut plain = true;
-    for byte in bytes {
-        plain &= b' ' <= *byte && *byte <= b'~';
-    }
-    plain
 }
 
 /// The columns that a line takes as it is shown. A control character takes one, as what is shown for it does.

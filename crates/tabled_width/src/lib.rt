@@ -11,5 +11,6 @@ mod wrapping;
 
 pub use columns::columns_of;
 pub use pieces::Pieces;
+pub use plain::is_plain;
 pub use widest::{widest_piece, widest_word};
 pub use wrapping::{lines_fit, wrap};

@@ -10,4 +10,4 @@ pub loop-piece-init : goal.loop-piece-init
 loop-piece-init c = ap (λ ps. fold (λ most piece. cond (is_just 10 piece) most (max most (text_width piece))) 0 ps) (ap (map chars) (c.into_iter-piece-iterator.ensures.into_iter_gives ∙ c.new-piece-items.ensures) ∙ chars-pieces c.args.text.now c.utf8.text)
 
 pub returns-then-is_plain : goal.returns-then-is_plain
-returns-then-is_plain c = c.min.ensures ∙ plain-widest_piece c.args.text.now (c.is_plain.ensures c.if-is_plain.true)
+returns-then-is_plain c = c.min.ensures ∙ plain-widest_piece c.args.text.now (c.is_plain.ensures.0 c.if-is_plain.true)

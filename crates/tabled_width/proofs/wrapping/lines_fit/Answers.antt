@@ -28,4 +28,4 @@ returns-then-columns-width c =
     (rw (apart, lt-leb _ _ over) at same) ∙ fit-lines c.args.width (chars c.args.text.now)
 
 pub returns-then-is_plain : goal.returns-then-is_plain
-returns-then-is_plain c = plain-fits c.args.width c.args.text.now (c.is_plain.ensures c.if-is_plain.true)
+returns-then-is_plain c = plain-fits c.args.width c.args.text.now (c.is_plain.ensures.0 c.if-is_plain.true)
