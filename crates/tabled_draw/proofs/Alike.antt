@@ -2,9 +2,9 @@
 use Rattle.tabled_draw.proofs.Common.{Alignment, Columns, Grid, In, List, Member, None, Option, Plan, Position, Rectangle, Rows, Some, SpanMap, Style, [], across, aligned, alignment_in, ap, ap₂, are_none, arith, arms, asks, border, border_line, by_number, bytes_of_lines, cases_Bool, column_at, cond, cond-false, count_along, differ, each, edge_at, eqb, false, false_from_ne_true, fitting, fold, get_or, grown_for, grown_sizes, heights, holds, holds-true, in_order, inl, inr, is_hidden_in, largest, least, line_at, line_height, line_of, line_size, lines_around, lines_in, lines_of_row, lines_shown, mark, not, own, own_sizes, owner_in, picture, picture_lines, place, place_in, plan_of, rectangles, refl, replicate, room, same_place, same_place-self, same_place-true, shows, shows_in, start_of, subst, sym, text_of_cell, top, true, widths, ℕ, ◌&&◌, ◌++◌, ◌+◌, ◌-◌, ◌<◌, ◌==◌, ◌||◌, ◌∙◌, ◌∷◌, ◌≡◌, false≢true}
 use Rattle.std.proofs.lemmas.Bool.{and_parts}
 use Rattle.tabled_draw.proofs.Each.{each-same}
-use Rattle.tabled_draw.proofs.Fitting.{kept-well}
+use Rattle.tabled_draw.proofs.Fitting.{kept-fit}
 use Rattle.tabled_draw.proofs.Owned.{owner-some}
-use Rattle.tabled_grid.proofs.Owners.{LieWell, Owned, member-owner, owned, owner-lies}
+use Rattle.tabled_grid.proofs.Owners.{AnchorsFit, Owned, anchor-lies, anchors-one, member-owner, owned, owner-lies}
 use Rattle.tabled_grid.proofs.Owners.Owned.{alone, held}
 use Rattle.tabled_draw.proofs.Sizes.{from-order, largest-same, place-within}
 use Rattle.tabled_draw.specs.Owners.{owner}
@@ -15,7 +15,7 @@ use Rattle.tabled_grid.proofs.Members.{any-member}
 use Rattle.tabled_grid.specs.declared.records.axis.Axis.{Axis}
 use Rattle.tabled_grid.specs.Rectangles.{HasArea, LiesInside}
 
-module _ (style : Style) (aligns : List Alignment) (g h : Grid (List ℕ)) (es : List Rectangle) (well : LieWell g.rows g.columns es) (alike : AreSeenAlike g h es) where
+module _ (style : Style) (aligns : List Alignment) (g h : Grid (List ℕ)) (es : List Rectangle) (fit : AnchorsFit g.rows g.columns es) (alike : AreSeenAlike g h es) where
   abbrev one : Plan
   one = plan_of style g es
 
@@ -29,13 +29,13 @@ module _ (style : Style) (aligns : List Alignment) (g h : Grid (List ℕ)) (es :
   owner-seen p low far = false_from_ne_true _ (λ t. none-hides (any-member (λ (e : Rectangle). holds e (owner_in es p).first && not (same_place e.first (owner_in es p).first)) es t))
     where
       lies : HasArea (owner_in es p) × LiesInside g.rows g.columns (owner_in es p)
-      lies = owner-lies well p low far
+      lies = owner-lies fit p low far
 
       here : In (owner_in es p) (owner_in es p).first
       here = record { top = omega arith; bottom = omega (arith, lies.0.height); left = omega arith; right = omega (arith, lies.0.width) }
 
       begins : (e : Rectangle) → Member e es → In e (owner_in es p).first → Owned es p (owner_in es p) → e.first ≡ (owner_in es p).first
-      begins e m inside (held n k) = ap (λ (x : Rectangle). x.first) (well.apart e (owner_in es p) (owner_in es p).first m n inside here)
+      begins e m inside (held n k) = ap (λ (x : Rectangle). x.first) (anchors-one fit e (owner_in es p) (owner_in es p).first m n inside here)
       begins e m inside (alone is never) = absurd (never e m (subst (λ (x : Rectangle). In e x.first) is inside))
 
       none-hides : (e : Rectangle) × Member e es × ((holds e (owner_in es p).first && not (same_place e.first (owner_in es p).first)) ≡ true) → ⊥
@@ -47,13 +47,13 @@ module _ (style : Style) (aligns : List Alignment) (g h : Grid (List ℕ)) (es :
 
   owner-text : (p : Position) → p.row < g.rows → p.col < g.columns → text_of_cell g (owner_in es p).first ≡ text_of_cell h (owner_in es p).first
   owner-text p low far =
-      let lies : HasArea (owner_in es p) × LiesInside g.rows g.columns (owner_in es p) = owner-lies well p low far in
+      let lies : HasArea (owner_in es p) × LiesInside g.rows g.columns (owner_in es p) = owner-lies fit p low far in
       alike.texts (owner_in es p).first (record { inside = record { row = omega (arith, lies.1.bottom, lies.0.height); col = omega (arith, lies.1.right, lies.0.width) }; seen = owner-seen p low far })
 
   member-text : (e : Rectangle) → Member e es → text_of_cell g e.first ≡ text_of_cell h e.first
   member-text e m =
-      let lies : HasArea e × LiesInside g.rows g.columns e = well.lies e m in
-      subst (λ (x : Rectangle). text_of_cell g x.first ≡ text_of_cell h x.first) (member-owner well e e.first m (record { top = omega arith; bottom = omega (arith, lies.0.height); left = omega arith; right = omega (arith, lies.0.width) }))
+      let lies : HasArea e × LiesInside g.rows g.columns e = anchor-lies fit e m in
+      subst (λ (x : Rectangle). text_of_cell g x.first ≡ text_of_cell h x.first) (member-owner fit e e.first m (record { top = omega arith; bottom = omega (arith, lies.0.height); left = omega arith; right = omega (arith, lies.0.width) }))
       (owner-text e.first (omega (arith, lies.1.bottom, lies.0.height)) (omega (arith, lies.1.right, lies.0.width)))
 
   -- ---- sizes
@@ -150,5 +150,5 @@ module _ (style : Style) (aligns : List Alignment) (g h : Grid (List ℕ)) (es :
 pub drawn-alike : (style : Style) (aligns : List Alignment) (g h : Grid (List ℕ)) (m : SpanMap) → AreSeenAlike g h (fitting g.rows g.columns (rectangles m)) → drawn_with style aligns g m ≡ drawn_with style aligns h m
 unfolding drawn_with
 drawn-alike style aligns g h m alike =
-    ap bytes_of_lines (picture-alike style aligns g h (fitting g.rows g.columns (rectangles m)) (kept-well m g.rows g.columns) alike)
+    ap bytes_of_lines (picture-alike style aligns g h (fitting g.rows g.columns (rectangles m)) (kept-fit m g.rows g.columns) alike)
     ∙ ap₂ (λ r c. bytes_of_lines (picture style aligns h (fitting r c (rectangles m)))) alike.rows alike.columns

@@ -1,6 +1,6 @@
 -- Merged cells that fit a table, and those that are kept of any.
 use Rattle.tabled_draw.proofs.Common.{Alignment, Fits, Grid, HoldsOfPictures, List, Plan, Rectangle, SpanMap, Style, ap, ap₂, bytes_of_lines, fitting, keep_fitting, picture, plan_of, rectangles, rectangles-map_of, rectangles_anchors, subst, sym, ℕ, ◌∙◌, ◌≡◌}
-use Rattle.tabled_grid.proofs.Owners.{LieWell, fits-well}
+use Rattle.tabled_grid.proofs.Owners.{AnchorsFit, anchors-fit}
 use Rattle.tabled_draw.specs.Picture.{drawn_with}
 use Rattle.tabled_grid.proofs.Fitting.{anchors-fitting, keep_fitting-all, keep_fitting-fits}
 
@@ -8,14 +8,14 @@ use Rattle.tabled_grid.proofs.Fitting.{anchors-fitting, keep_fitting-all, keep_f
 pub kept-rectangles : (m : SpanMap) (rows columns : ℕ) → rectangles (keep_fitting rows columns m) ≡ fitting rows columns (rectangles m)
 kept-rectangles m rows columns = rectangles-map_of (fitting rows columns (rectangles m)) (anchors-fitting rows columns (rectangles m) (rectangles_anchors m))
 
-pub kept-well : (m : SpanMap) (rows columns : ℕ) → LieWell rows columns (fitting rows columns (rectangles m))
-kept-well m rows columns = subst (λ (es : List Rectangle). LieWell rows columns es) (kept-rectangles m rows columns) (fits-well (keep_fitting rows columns m) rows columns (keep_fitting-fits rows columns m))
+pub kept-fit : (m : SpanMap) (rows columns : ℕ) → AnchorsFit rows columns (fitting rows columns (rectangles m))
+kept-fit m rows columns = subst (λ (es : List Rectangle). AnchorsFit rows columns es) (kept-rectangles m rows columns) (anchors-fit (keep_fitting rows columns m) rows columns (keep_fitting-fits rows columns m))
 
--- what holds where merged cells of a list lie well
-pub holds : (Says : Plan → List Alignment → Type 0) → ((plan : Plan) (aligns : List Alignment) → LieWell plan.grid.rows plan.grid.columns plan.merged → Says plan aligns) → HoldsOfPictures Says
+-- what holds where the merged cells of a list fit
+pub holds : (Says : Plan → List Alignment → Type 0) → ((plan : Plan) (aligns : List Alignment) → AnchorsFit plan.grid.rows plan.grid.columns plan.merged → Says plan aligns) → HoldsOfPictures Says
 holds Says each = record {
-  where_all_fit = λ style aligns g m fits. each (plan_of style g (rectangles m)) aligns (fits-well m g.rows g.columns fits);
-  of_drawn = λ style aligns g m. each (plan_of style g (fitting g.rows g.columns (rectangles m))) aligns (kept-well m g.rows g.columns);
+  where_all_fit = λ style aligns g m fits. each (plan_of style g (rectangles m)) aligns (anchors-fit m g.rows g.columns fits);
+  of_drawn = λ style aligns g m. each (plan_of style g (fitting g.rows g.columns (rectangles m))) aligns (kept-fit m g.rows g.columns);
 }
 
 -- ---- what is drawn

@@ -5,7 +5,7 @@ use Rattle.tabled_draw.proofs.Arms.{equal-arms, none-alone, same-arms}
 use Rattle.tabled_draw.proofs.Fine.{ascii}
 use Rattle.tabled_draw.proofs.LawLines.{IsLineOf, edge-stands, level-stands}
 use Rattle.tabled_draw.proofs.Owned.{Inside, Owns, owner-below, owner-both, owner-exists, owner-left, owner-member, owner-owns, owner-right, owner-some, owner-top}
-use Rattle.tabled_grid.proofs.Owners.{LieWell, owned}
+use Rattle.tabled_grid.proofs.Owners.{AnchorsFit, owned}
 use Rattle.std.proofs.lemmas.Bool.{and_parts, le-ltb, leb-true, ltb-true, true_from_ne_false}
 use Rattle.tabled_grid.proofs.Members.{any-member}
 use Rattle.tabled_grid.specs.declared.records.axis.Axis.{Axis}
@@ -33,7 +33,7 @@ arm-if a b arm joined some none = elim (cases_lt a b) [
   | inr more ↦ none more ∙ ap (λ c. c && not joined) (sym (le-ltb a b more))
 ]
 
-module _ (plan : Plan) (aligns : List Alignment) (well : LieWell plan.grid.rows plan.grid.columns plan.merged) (some : IsInside plan.grid (place 0 0)) where
+module _ (plan : Plan) (aligns : List Alignment) (fit : AnchorsFit plan.grid.rows plan.grid.columns plan.merged) (some : IsInside plan.grid (place 0 0)) where
   -- an owner is a merged cell, or takes one place
   merged : (i j : ℕ) (o : Rectangle) → owner_at plan i j ≡ Some o → Member o plan.merged ⊎ (o.size ≡ sized 1 1)
   merged i j o e = elim (owned plan.merged (place s.row s.col)) [
@@ -48,8 +48,8 @@ module _ (plan : Plan) (aligns : List Alignment) (well : LieWell plan.grid.rows 
   crossed : (test : Rectangle → Bool) (i j k l : ℕ) → list_any test plan.merged ≡ false → i + j < k + l → ((o : Rectangle) → Owns plan.grid.rows plan.grid.columns plan.merged i j o → Owns plan.grid.rows plan.grid.columns plan.merged k l o → test o ≡ true)
       → (o : Rectangle) → owner_at plan i j ≡ Some o → owner_at plan k l ≡ Some o → ⊥
   crossed test i j k l clear apart meets o e f =
-      let a = owner-owns well e in
-      let b = owner-owns well f in
+      let a = owner-owns fit e in
+      let b = owner-owns fit f in
       elim (merged i j o e) [
         | inl m ↦ false≢true (sym clear ∙ any-from test o plan.merged m (meets o a b))
         | inr one ↦ let h : o.size.height ≡ 1 = ap (λ (x : Size). x.height) one in let w : o.size.width ≡ 1 = ap (λ (x : Size). x.width) one in omega arith
@@ -79,7 +79,7 @@ module _ (plan : Plan) (aligns : List Alignment) (well : LieWell plan.grid.rows 
   differ-beside : (r j : ℕ) → r < plan.grid.rows → j ≤ plan.grid.columns → differ (at (r + 1) j) (at (r + 1) (j + 1)) ≡ not (is_joined_beside plan.merged r j)
   differ-beside r j h k = elim (cases_Bool (is_joined_beside plan.merged r j)) [
     | inl t ↦ let one = any-member (lies_beside r j) plan.merged t in joined one.0 one.1 one.2 ∙ sym (ap not t)
-    | inr f ↦ true_from_ne_false _ (λ same. (let both = owner-both well (r + 1) j (r + 1) (j + 1) same some_one in no-beside r j f both.0 both.1 both.2)) ∙ sym (ap not f)
+    | inr f ↦ true_from_ne_false _ (λ same. (let both = owner-both fit (r + 1) j (r + 1) (j + 1) same some_one in no-beside r j f both.0 both.1 both.2)) ∙ sym (ap not f)
   ]
     where
       joined : (e : Rectangle) → Member e plan.merged → lies_beside r j e ≡ true → differ (at (r + 1) j) (at (r + 1) (j + 1)) ≡ false
@@ -87,8 +87,8 @@ module _ (plan : Plan) (aligns : List Alignment) (well : LieWell plan.grid.rows 
           let rows = in-range r e.first.row e.size.height (and_parts (is_in_range r e.first.row e.size.height) (is_amid j e.first.col e.size.width) t).0 in
           let columns = in-amid j e.first.col e.size.width (and_parts (is_in_range r e.first.row e.size.height) (is_amid j e.first.col e.size.width) t).1 in
           differ-one (at (r + 1) j) (at (r + 1) (j + 1)) e
-          (owner-member well e m (r + 1) j (omega (arith, rows.0)) (omega (arith, rows.1)) columns.0 (omega (arith, columns.1)))
-          (owner-member well e m (r + 1) (j + 1) (omega (arith, rows.0)) (omega (arith, rows.1)) (omega (arith, columns.0)) (omega (arith, columns.1)))
+          (owner-member fit e m (r + 1) j (omega (arith, rows.0)) (omega (arith, rows.1)) columns.0 (omega (arith, columns.1)))
+          (owner-member fit e m (r + 1) (j + 1) (omega (arith, rows.0)) (omega (arith, rows.1)) (omega (arith, columns.0)) (omega (arith, columns.1)))
 
       some_one : at (r + 1) j ≡ None → at (r + 1) (j + 1) ≡ None → ⊥
       some_one none none' = elim (cases_lt j plan.grid.columns) [
@@ -99,7 +99,7 @@ module _ (plan : Plan) (aligns : List Alignment) (well : LieWell plan.grid.rows 
   differ-above : (i c : ℕ) → i ≤ plan.grid.rows → c < plan.grid.columns → differ (at i (c + 1)) (at (i + 1) (c + 1)) ≡ not (is_joined_above plan.merged i c)
   differ-above i c h k = elim (cases_Bool (is_joined_above plan.merged i c)) [
     | inl t ↦ let one = any-member (lies_above i c) plan.merged t in joined one.0 one.1 one.2 ∙ sym (ap not t)
-    | inr f ↦ true_from_ne_false _ (λ same. (let both = owner-both well i (c + 1) (i + 1) (c + 1) same some_one in no-above i c f both.0 both.1 both.2)) ∙ sym (ap not f)
+    | inr f ↦ true_from_ne_false _ (λ same. (let both = owner-both fit i (c + 1) (i + 1) (c + 1) same some_one in no-above i c f both.0 both.1 both.2)) ∙ sym (ap not f)
   ]
     where
       joined : (e : Rectangle) → Member e plan.merged → lies_above i c e ≡ true → differ (at i (c + 1)) (at (i + 1) (c + 1)) ≡ false
@@ -107,8 +107,8 @@ module _ (plan : Plan) (aligns : List Alignment) (well : LieWell plan.grid.rows 
           let rows = in-amid i e.first.row e.size.height (and_parts (is_amid i e.first.row e.size.height) (is_in_range c e.first.col e.size.width) t).0 in
           let columns = in-range c e.first.col e.size.width (and_parts (is_amid i e.first.row e.size.height) (is_in_range c e.first.col e.size.width) t).1 in
           differ-one (at i (c + 1)) (at (i + 1) (c + 1)) e
-          (owner-member well e m i (c + 1) rows.0 (omega (arith, rows.1)) (omega (arith, columns.0)) (omega (arith, columns.1)))
-          (owner-member well e m (i + 1) (c + 1) (omega (arith, rows.0)) (omega (arith, rows.1)) (omega (arith, columns.0)) (omega (arith, columns.1)))
+          (owner-member fit e m i (c + 1) rows.0 (omega (arith, rows.1)) (omega (arith, columns.0)) (omega (arith, columns.1)))
+          (owner-member fit e m (i + 1) (c + 1) (omega (arith, rows.0)) (omega (arith, rows.1)) (omega (arith, columns.0)) (omega (arith, columns.1)))
 
       some_one : at i (c + 1) ≡ None → at (i + 1) (c + 1) ≡ None → ⊥
       some_one none none' = elim (cases_lt i plan.grid.rows) [
@@ -152,15 +152,15 @@ module _ (plan : Plan) (aligns : List Alignment) (well : LieWell plan.grid.rows 
       beside = λ i j n h k drawn above below clear.
           stands-at plan aligns n (left plan j) (line_at plan aligns n (i + 1) (i + 1)) (plan.style.vertical ∷ []) (line-in plan aligns some.row some.col i n h above below)
           (subst (λ b. StandsIn (line_at plan aligns n (i + 1) (i + 1)) (left plan j) (mark plan.style b (arms (at (i + 1) j) (at (i + 1) (j + 1)) (at (i + 1) j) (at (i + 1) (j + 1))) ∷ [])) (eq-eqb (i + 1) (i + 1) refl)
-          (edge-stands plan aligns fine well n (i + 1) (i + 1) (line-of i h) some.col j k drawn (λ o e e' f f'. no-beside i j clear o e e')));
+          (edge-stands plan aligns fine fit n (i + 1) (i + 1) (line-of i h) some.col j k drawn (λ o e e' f f'. no-beside i j clear o e e')));
       above = λ i j h k drawn clear.
           stands-at plan aligns (top plan i) (left plan j + line_width plan j) (line_at plan aligns (top plan i) i (i + 1)) (replicate (left plan (j + 1) - left plan j - line_width plan j) plan.style.horizontal) (line-above plan aligns some.row some.col i h drawn)
-          (level-stands plan aligns fine well (top plan i) i (i + 1) (line-between i h) some.col j k (no-above i j clear));
+          (level-stands plan aligns fine fit (top plan i) i (i + 1) (line-between i h) some.col j k (no-above i j clear));
       around = λ i j h k drawn drawn' clear.
           stands-at plan aligns (top plan i) (left plan j) (line_at plan aligns (top plan i) i (i + 1)) (corner plan.style (meeting plan.grid plan.merged i j) ∷ []) (line-above plan aligns some.row some.col i h drawn)
           (subst (λ c. StandsIn (line_at plan aligns (top plan i) i (i + 1)) (left plan j) (c ∷ []))
           (ap (λ b. mark plan.style b (arms (at i j) (at i (j + 1)) (at (i + 1) j) (at (i + 1) (j + 1)))) (ne_eqb i (i + 1) (λ same. omega (arith, same))) ∙ ap (corner plan.style) (arms-meet i j h k))
-          (edge-stands plan aligns fine well (top plan i) i (i + 1) (line-between i h) some.col j k drawn' (no-around i j clear)));
+          (edge-stands plan aligns fine fit (top plan i) i (i + 1) (line-between i h) some.col j k drawn' (no-around i j clear)));
     }
 
   -- ---- no border ends at a corner
@@ -188,9 +188,9 @@ plain-border axis g k within = ap (λ b. cond b 1 0) (drawn axis within)
 plain-corner : (a : Arms) → corner ASCII a ≡ 43
 plain-corner a = equal-arms (corner ASCII) (λ a. 43) refl a
 
-pub stand-plain : (g : Grid (List ℕ)) (es : List Rectangle) → LieWell g.rows g.columns es → IsInside g (place 0 0) → StandPlain g es
-stand-plain g es well some =
-    let all = stand-between (plan_of ASCII g es) [] well some ascii in
+pub stand-plain : (g : Grid (List ℕ)) (es : List Rectangle) → AnchorsFit g.rows g.columns es → IsInside g (place 0 0) → StandPlain g es
+stand-plain g es fit some =
+    let all = stand-between (plan_of ASCII g es) [] fit some ascii in
     record {
       beside = λ i j n h k above below clear. all.beside i j n h k (plain-border Columns g j k) (omega (arith, above, plain-border Rows g i (omega (arith, h)))) below clear;
       above = λ i j h k clear. subst (λ b. StandsAt (picture ASCII [] g es) (top (plan_of ASCII g es) i) (left (plan_of ASCII g es) j + b) (replicate (left (plan_of ASCII g es) (j + 1) - left (plan_of ASCII g es) j - b) 45)) (plain-border Columns g j (omega (arith, k))) (all.above i j h k (plain-border Rows g i h) clear);

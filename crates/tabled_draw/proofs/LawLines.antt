@@ -6,7 +6,7 @@ use Rattle.tabled_draw.proofs.Arms.{differ-none, differ-self, none-one, none-par
 use Rattle.tabled_draw.specs.declared.alignment.Alignment.TheVariants.{Left, Center, Right}
 use Rattle.tabled_draw.proofs.Each.{each-more, split-each}
 use Rattle.tabled_draw.proofs.Owned.{Owns, owner-both, owner-exists, owner-left, owner-owns, owner-some}
-use Rattle.tabled_grid.proofs.Owners.{LieWell}
+use Rattle.tabled_grid.proofs.Owners.{AnchorsFit}
 use Rattle.tabled_draw.proofs.Shares.{room-end}
 use Rattle.tabled_draw.proofs.Sizes.{line-least, room-enough, start-next}
 use Rattle.tabled_draw.proofs.Widths.{IsPlain, all-marks, columns-after_blanks, columns-append, columns-blanks, columns-nil, columns-replicate, plain-after_blanks, plain-append, plain-blanks, plain-marks, plain-nil}
@@ -76,7 +76,7 @@ pub record Framed (row : List ℕ) (columns before behind : ℕ) (text : List �
   pub last_marks : AllByRecursion IsFineMark last
   pub stands : StandsIn row columns (first ++ (text ++ last))
 
-module _ (plan : Plan) (aligns : List Alignment) (fine : IsFine plan.style) (well : LieWell plan.grid.rows plan.grid.columns plan.merged) where
+module _ (plan : Plan) (aligns : List Alignment) (fine : IsFine plan.style) (fit : AnchorsFit plan.grid.rows plan.grid.columns plan.merged) where
   -- what an owner shows is as wide as its room, with a blank at both sides
   shows-wide : (n i j : ℕ) (o : Rectangle) → owner_at plan i j ≡ Some o → text_width (shows plan aligns n o) ≡ room Columns (line_width plan) (widths plan) o.first.col o.size.width + 2
   shows-wide n i j o e =
@@ -85,7 +85,7 @@ module _ (plan : Plan) (aligns : List Alignment) (fine : IsFine plan.style) (wel
       let k = n - top plan o.first.row - line_height plan o.first.row in
       let text = get_or lines k [] in
       let wide = room Columns (line_width plan) (widths plan) o.first.col o.size.width in
-      let enough : widest (text_of_cell plan.grid o.first) ≤ wide = rw s.is (room-enough Columns plan.style plan.grid plan.merged well (place s.row s.col) s.below s.right) in
+      let enough : widest (text_of_cell plan.grid o.first) ≤ wide = rw s.is (room-enough Columns plan.style plan.grid plan.merged fit (place s.row s.col) s.below s.right) in
       let within : text_width text ≤ widest (text_of_cell plan.grid o.first) = line-least lines 0 k in
       aligned-wide (alignment_in aligns o.first.col) wide text (omega arith)
 
@@ -140,9 +140,9 @@ module _ (plan : Plan) (aligns : List Alignment) (fine : IsFine plan.style) (wel
     one-round : (j : ℕ) → j ≤ plan.grid.columns → 0 < plan.grid.columns → joint j ≡ true → (o : Rectangle) × (up j ≡ Some o) × (up (j + 1) ≡ Some o) × (down j ≡ Some o) × (down (j + 1) ≡ Some o)
     one-round j high wide t =
         let parts = none-parts (meeting_at j) t in
-        let a = owner-both well u j u (j + 1) parts.0 (λ x y. some-two x y parts) in
-        let b = owner-both well u j d j parts.3 (λ x y. none-some a.0 (sym x ∙ a.1)) in
-        let c = owner-both well d j d (j + 1) parts.2 (λ x y. none-some b.0 (sym x ∙ b.2)) in
+        let a = owner-both fit u j u (j + 1) parts.0 (λ x y. some-two x y parts) in
+        let b = owner-both fit u j d j parts.3 (λ x y. none-some a.0 (sym x ∙ a.1)) in
+        let c = owner-both fit d j d (j + 1) parts.2 (λ x y. none-some b.0 (sym x ∙ b.2)) in
         let ab : Some a.0 ≡ Some b.0 = sym a.1 ∙ b.1 in
         let bc : Some b.0 ≡ Some c.0 = sym b.2 ∙ c.1 in
         (a.0, a.1, a.2, b.2 ∙ sym ab, c.2 ∙ sym bc ∙ sym ab)
@@ -211,8 +211,8 @@ module _ (plan : Plan) (aligns : List Alignment) (fine : IsFine plan.style) (wel
     -- past a column that one owner has above and below
     past : (j w : ℕ) (o : Rectangle) → up (j + 1) ≡ Some o → down (j + 1) ≡ Some o → w ≡ left plan (o.first.col + o.size.width) → Reached (j + 1) w
     past j w o e f is =
-        let a = owner-owns well e in
-        let b = owner-owns well f in
+        let a = owner-owns fit e in
+        let b = owner-owns fit f in
         elim (cases_lt (j + 1) (o.first.col + o.size.width)) [
           | inl more ↦ inside o e f (a.all u (j + 1 + 1) a.top a.bottom (omega (arith, a.left)) (omega arith)) (b.all d (j + 1 + 1) b.top b.bottom (omega (arith, b.left)) (omega arith)) is
           | inr last ↦
@@ -222,7 +222,7 @@ module _ (plan : Plan) (aligns : List Alignment) (fine : IsFine plan.style) (wel
       where
         ends : o.first.col + o.size.width ≡ j + 1 → j + 1 ≤ plan.grid.columns → joint (j + 1) ≡ false
         ends last within = not-joint (j + 1) within (omega (arith, within)) (λ p at next at' next'. (
-            let far = owner-owns well (next ∙ sym at ∙ e) in
+            let far = owner-owns fit (next ∙ sym at ∙ e) in
             omega (arith, far.right)))
 
     columns-part : (j x y : ℕ) → text_width (edge_of j) ≡ x → text_width (column_of j) ≡ y → text_width (part j) ≡ x + y
@@ -230,7 +230,7 @@ module _ (plan : Plan) (aligns : List Alignment) (fine : IsFine plan.style) (wel
 
     more : (j w : ℕ) → j < plan.grid.columns → Reached j w → Reached (j + 1) (w + text_width (part j))
     more j w less (inside o e f e' f' is) =
-        let a = owner-owns well e in
+        let a = owner-owns fit e in
         let none : text_width (part j) ≡ 0 = columns-part j 0 0 (ap text_width (edge-none j (joint-from j o e f e' f')) ∙ columns-nil) (ap text_width (column-none j o e' f' (λ same. omega (arith, a.left, same))) ∙ columns-nil) in
         past j (w + text_width (part j)) o e' f' (ap (λ x. w + x) none ∙ add-zero w ∙ is)
     more j w less (edge apart is) = past-border (cases_Bool (differ (up (j + 1)) (down (j + 1))))
@@ -244,8 +244,8 @@ module _ (plan : Plan) (aligns : List Alignment) (fine : IsFine plan.style) (wel
             let to : left plan (j + 1) ≡ left plan j + (line_width plan j + get_or (widths plan) j 0 + 2) = start-next Columns plan.style plan.grid plan.merged j in
             edge (not-joint (j + 1) (omega (arith, less)) (omega (arith, less)) (λ o e e' f f'. false≢true (sym (ap₂ differ e f ∙ differ-self (Some o)) ∙ two))) (omega (arith, wide, to, is))
         past-border (inr one) =
-            let both = owner-both well u (j + 1) d (j + 1) one (some-one (j + 1) (omega arith) (omega (arith, less))) in
-            at both.0 both.1 both.2 (owner-owns well both.1) (owner-owns well both.2) (cases_lt both.0.first.col j)
+            let both = owner-both fit u (j + 1) d (j + 1) one (some-one (j + 1) (omega arith) (omega (arith, less))) in
+            at both.0 both.1 both.2 (owner-owns fit both.1) (owner-owns fit both.2) (cases_lt both.0.first.col j)
           where
             at : (o : Rectangle) → up (j + 1) ≡ Some o → down (j + 1) ≡ Some o → Owns plan.grid.rows plan.grid.columns plan.merged u (j + 1) o → Owns plan.grid.rows plan.grid.columns plan.merged d (j + 1) o → (o.first.col < j) ⊎ (j ≤ o.first.col) → Reached (j + 1) (w + text_width (part j))
             at o e f a b (inl before) =
@@ -270,7 +270,7 @@ module _ (plan : Plan) (aligns : List Alignment) (fine : IsFine plan.style) (wel
 
       -- at the right edge of the table no owner reaches over
       apart-last : joint plan.grid.columns ≡ false
-      apart-last = not-joint plan.grid.columns (omega arith) wide (λ o at next at' next'. (let far = owner-owns well next in omega (arith, far.right, far.lies.1.right)))
+      apart-last = not-joint plan.grid.columns (omega arith) wide (λ o at next at' next'. (let far = owner-owns fit next in omega (arith, far.right, far.lies.1.right)))
 
       -- where an arm is at an edge, a line has come to that edge
       reached-edge : (j : ℕ) → j ≤ plan.grid.columns → joint j ≡ false → text_width (each j part) ≡ left plan j
@@ -312,7 +312,7 @@ module _ (plan : Plan) (aligns : List Alignment) (fine : IsFine plan.style) (wel
       pub level-stands : (j : ℕ) → j < plan.grid.columns → ((o : Rectangle) → up (j + 1) ≡ Some o → down (j + 1) ≡ Some o → ⊥) → StandsIn written (left plan j + line_width plan j) (replicate (left plan (j + 1) - left plan j - line_width plan j) plan.style.horizontal)
       level-stands j less never =
           let size = inside_of j in
-          let two : differ (up (j + 1)) (down (j + 1)) ≡ true = true_from_ne_false (differ (up (j + 1)) (down (j + 1))) (λ f. (let both = owner-both well u (j + 1) d (j + 1) f (some-one (j + 1) (omega arith) (omega (arith, less))) in never both.0 both.1 both.2)) in
+          let two : differ (up (j + 1)) (down (j + 1)) ≡ true = true_from_ne_false (differ (up (j + 1)) (down (j + 1))) (λ f. (let both = owner-both fit u (j + 1) d (j + 1) f (some-one (j + 1) (omega arith) (omega (arith, less))) in never both.0 both.1 both.2)) in
           let is : column_of j ≡ replicate size plan.style.horizontal = column-apart j two in
           let to : left plan (j + 1) ≡ left plan j + (line_width plan j + get_or (widths plan) j 0 + 2) = start-next Columns plan.style plan.grid plan.merged j in
           let many : size ≡ left plan (j + 1) - left plan j - line_width plan j = omega (arith, to) in
@@ -341,10 +341,10 @@ module _ (plan : Plan) (aligns : List Alignment) (fine : IsFine plan.style) (wel
           end = j + o.size.width
 
           a : Owns plan.grid.rows plan.grid.columns plan.merged u (j + 1) o
-          a = owner-owns well e
+          a = owner-owns fit e
 
           b : Owns plan.grid.rows plan.grid.columns plan.merged d (j + 1) o
-          b = owner-owns well f
+          b = owner-owns fit f
 
           high : j + o.size.width ≤ plan.grid.columns
           high = omega (arith, a.lies.1.right, first)
@@ -356,10 +356,10 @@ module _ (plan : Plan) (aligns : List Alignment) (fine : IsFine plan.style) (wel
           under k low within = b.all d k b.top b.bottom (omega (arith, low, first)) (omega (arith, within, first))
 
           begins : joint j ≡ false
-          begins = not-joint j (omega (arith, less)) wide (λ p x x' y y'. (let far = owner-owns well (x ∙ sym x' ∙ e) in omega (arith, far.left, first)))
+          begins = not-joint j (omega (arith, less)) wide (λ p x x' y y'. (let far = owner-owns fit (x ∙ sym x' ∙ e) in omega (arith, far.left, first)))
 
           ends : joint (j + o.size.width) ≡ false
-          ends = not-joint (j + o.size.width) high wide (λ p x x' y y'. (let far = owner-owns well (x' ∙ sym x ∙ over (j + o.size.width) (omega (arith, a.lies.0.width)) (omega arith)) in omega (arith, far.right, first)))
+          ends = not-joint (j + o.size.width) high wide (λ p x x' y y'. (let far = owner-owns fit (x' ∙ sym x ∙ over (j + o.size.width) (omega (arith, a.lies.0.width)) (omega arith)) in omega (arith, far.right, first)))
 
           -- in its other columns stands nothing
           nothing : (k : ℕ) → k < o.size.width → each (j + 1 + k) part ≡ each (j + 1) part

@@ -4,7 +4,7 @@ use Rattle.std.proofs.Common.{chars}
 use borrow.Author.Tests.{ne_eqb}
 use Rattle.tabled_draw.proofs.Each.{all-each, get-singles, length-singles, split-each}
 use Rattle.tabled_draw.proofs.LawLines.{blank-fine, IsLineOf, level-fine, line-wide, mark-fine}
-use Rattle.tabled_grid.proofs.Owners.{LieWell}
+use Rattle.tabled_grid.proofs.Owners.{AnchorsFit}
 use Rattle.std.proofs.lemmas.Bool.{or_right}
 use Rattle.tabled_grid.specs.declared.records.axis.Axis.{Axis}
 use Rattle.tabled_draw.proofs.Sizes.{length-sizes, start-next}
@@ -154,9 +154,9 @@ module _ (plan : Plan) (aligns : List Alignment) where
       with-or-without-cells _ (inl e) = none (ap (λ n. (plan.grid.rows == 0) || (n == 0)) e ∙ or_right (plan.grid.rows == 0) true refl)
       with-or-without-cells (inr high) (inr wide) = some (omega (arith, high)) (omega (arith, wide))
 
-module _ (plan : Plan) (aligns : List Alignment) (fine : IsFine plan.style) (well : LieWell plan.grid.rows plan.grid.columns plan.merged) where
+module _ (plan : Plan) (aligns : List Alignment) (fine : IsFine plan.style) (fit : AnchorsFit plan.grid.rows plan.grid.columns plan.merged) where
   pub equally-wide : AllByRecursion (λ line. text_width line ≡ line_columns plan) (picture_lines plan aligns)
-  equally-wide = all-lines plan aligns (λ line. text_width line ≡ line_columns plan) (λ n u d wide line. line-wide plan aligns fine well n u d line wide)
+  equally-wide = all-lines plan aligns (λ line. text_width line ≡ line_columns plan) (λ n u d wide line. line-wide plan aligns fine fit n u d line wide)
 
 -- ---- how many lines there are
 

@@ -3,7 +3,7 @@ use Rattle.tabled_draw.proofs.Common.{Alignment, Columns, IsFine, IsSeen, List, 
 use Rattle.tabled_draw.proofs.LawLines.{Framed, cell-framed}
 use Rattle.tabled_draw.proofs.Widths.{IsPlain, columns-append, columns-blanks, marks-wide, plain-blanks, plain-marks}
 use Rattle.tabled_draw.proofs.Owned.{owner-inside, owner-owns}
-use Rattle.tabled_grid.proofs.Owners.{LieWell, owner-lies, owner-self}
+use Rattle.tabled_grid.proofs.Owners.{AnchorsFit, owner-lies, owner-self}
 use Rattle.tabled_draw.proofs.Shares.{room-end}
 use Rattle.tabled_draw.proofs.Sizes.{line-least, room-enough}
 use Rattle.tabled_draw.proofs.LawPicture.{IsLine, line-above, line-in, locate, stands-at}
@@ -19,7 +19,7 @@ stands-part row columns a b c plain s = record {
   at = columns-append s.before a plain ∙ ap (λ n. n + text_width a) s.at;
 }
 
-module _ (plan : Plan) (aligns : List Alignment) (fine : IsFine plan.style) (well : LieWell plan.grid.rows plan.grid.columns plan.merged) where
+module _ (plan : Plan) (aligns : List Alignment) (fine : IsFine plan.style) (fit : AnchorsFit plan.grid.rows plan.grid.columns plan.merged) where
   -- ---- what a cell shows
 
   module _ (p : Position) (it : IsSeen plan.grid plan.merged p) where
@@ -37,7 +37,7 @@ module _ (plan : Plan) (aligns : List Alignment) (fine : IsFine plan.style) (wel
     self = owner-self plan.merged p it.seen
 
     lies : HasArea o × LiesInside plan.grid.rows plan.grid.columns o
-    lies = owner-lies well p it.inside.row it.inside.col
+    lies = owner-lies fit p it.inside.row it.inside.col
 
     row_is : o.first.row ≡ p.row
     row_is = ap (λ (q : Position). q.row) self
@@ -46,7 +46,7 @@ module _ (plan : Plan) (aligns : List Alignment) (fine : IsFine plan.style) (wel
     col_is = ap (λ (q : Position). q.col) self
 
     owns : (r : ℕ) → p.row < r → r ≤ p.row + o.size.height → owner_at plan r (p.col + 1) ≡ Some o
-    owns r above below = (owner-owns well (owner-inside plan.grid.rows plan.grid.columns plan.merged p.row p.col it.inside.row it.inside.col)).all r (p.col + 1) (omega (arith, row_is)) (omega (arith, row_is)) (omega (arith, col_is)) (omega (arith, col_is, lies.0.width))
+    owns r above below = (owner-owns fit (owner-inside plan.grid.rows plan.grid.columns plan.merged p.row p.col it.inside.row it.inside.col)).all r (p.col + 1) (omega (arith, row_is)) (omega (arith, row_is)) (omega (arith, col_is)) (omega (arith, col_is, lies.0.width))
 
     -- as many characters of borders stand before and behind it as there are
     shows-framed : (n : ℕ) → inner_top plan p ≤ n → n < top plan (p.row + o.size.height) → Stands n (shows plan aligns n o)
@@ -54,10 +54,10 @@ module _ (plan : Plan) (aligns : List Alignment) (fine : IsFine plan.style) (wel
       | line r above below drawn is ↦
           let low : p.row + o.size.height ≤ plan.grid.rows = omega (arith, row_is, lies.1.bottom) in
           let l : IsLine plan aligns n (line_at plan aligns n r (r + 1)) = subst (λ k. IsLine plan aligns k (line_at plan aligns k r (r + 1))) is (line-above plan aligns some wide_some r (omega (arith, low, below)) drawn) in
-          framed-at (line_at plan aligns n r (r + 1)) l (cell-framed plan aligns fine well n r (r + 1) (record { some = some; low = omega arith; high = omega (arith, low, below); next = inr refl }) wide_some p.col o it.inside.col col_is (owns r above (omega (arith, below))) (owns (r + 1) (omega (arith, above)) (omega (arith, below))))
+          framed-at (line_at plan aligns n r (r + 1)) l (cell-framed plan aligns fine fit n r (r + 1) (record { some = some; low = omega arith; high = omega (arith, low, below); next = inr refl }) wide_some p.col o it.inside.col col_is (owns r above (omega (arith, below))) (owns (r + 1) (omega (arith, above)) (omega (arith, below))))
       | text r above below x y ↦
           let low : p.row + o.size.height ≤ plan.grid.rows = omega (arith, row_is, lies.1.bottom) in
-          framed-at (line_at plan aligns n (r + 1) (r + 1)) (line-in plan aligns some wide_some r n (omega (arith, low, below)) x y) (cell-framed plan aligns fine well n (r + 1) (r + 1) (record { some = some; low = omega arith; high = omega (arith, low, below); next = inl refl }) wide_some p.col o it.inside.col col_is (owns (r + 1) (omega (arith, above)) (omega (arith, below))) (owns (r + 1) (omega (arith, above)) (omega (arith, below))))
+          framed-at (line_at plan aligns n (r + 1) (r + 1)) (line-in plan aligns some wide_some r n (omega (arith, low, below)) x y) (cell-framed plan aligns fine fit n (r + 1) (r + 1) (record { some = some; low = omega arith; high = omega (arith, low, below); next = inl refl }) wide_some p.col o it.inside.col col_is (owns (r + 1) (omega (arith, above)) (omega (arith, below))) (owns (r + 1) (omega (arith, above)) (omega (arith, below))))
     ]
       where
         some : 0 < plan.grid.rows
@@ -72,7 +72,7 @@ module _ (plan : Plan) (aligns : List Alignment) (fine : IsFine plan.style) (wel
     -- its room
     width-enough : (k : ℕ) → text_width (text_line plan.grid p k) ≤ wide
     width-enough k =
-        let enough : widest (text_of_cell plan.grid p) ≤ wide = subst (λ (q : Position). widest (text_of_cell plan.grid q) ≤ room Columns (line_width plan) (widths plan) q.col o.size.width) self (room-enough Columns plan.style plan.grid plan.merged well p it.inside.row it.inside.col) in
+        let enough : widest (text_of_cell plan.grid p) ≤ wide = subst (λ (q : Position). widest (text_of_cell plan.grid q) ≤ room Columns (line_width plan) (widths plan) q.col o.size.width) self (room-enough Columns plan.style plan.grid plan.merged fit p it.inside.row it.inside.col) in
         let within : text_width (text_line plan.grid p k) ≤ widest (text_of_cell plan.grid p) = line-least (lines_shown (text_of_cell plan.grid p)) 0 k in
         omega arith
 
@@ -86,7 +86,7 @@ module _ (plan : Plan) (aligns : List Alignment) (fine : IsFine plan.style) (wel
 
     text-high : length (lines_shown (text_of_cell plan.grid p)) ≤ inner_height plan p
     text-high =
-        let enough : length (lines_shown (text_of_cell plan.grid p)) ≤ room Rows (line_height plan) (heights plan) p.row o.size.height = subst (λ (q : Position). length (lines_shown (text_of_cell plan.grid q)) ≤ room Rows (line_height plan) (heights plan) q.row o.size.height) self (room-enough Rows plan.style plan.grid plan.merged well p it.inside.row it.inside.col) in
+        let enough : length (lines_shown (text_of_cell plan.grid p)) ≤ room Rows (line_height plan) (heights plan) p.row o.size.height = subst (λ (q : Position). length (lines_shown (text_of_cell plan.grid q)) ≤ room Rows (line_height plan) (heights plan) q.row o.size.height) self (room-enough Rows plan.style plan.grid plan.merged fit p it.inside.row it.inside.col) in
         let end : top plan (p.row + o.size.height) ≡ top plan p.row + (line_height plan p.row + room Rows (line_height plan) (heights plan) p.row o.size.height + 0) = room-end Rows (line_height plan) (heights plan) p.row o.size.height lies.0.height in
         omega arith
 

@@ -5,7 +5,7 @@ use Rattle.tabled_draw.proofs.Each.{each-same, each-more}
 use Rattle.tabled_draw.proofs.Shares.{room-end}
 use Rattle.tabled_draw.proofs.Sizes.{start-next}
 use Rattle.tabled_draw.proofs.Owned.{Owns, owner-owns, owner-some}
-use Rattle.tabled_grid.proofs.Owners.{LieWell, fits-well}
+use Rattle.tabled_grid.proofs.Owners.{AnchorsFit, anchors-fit}
 use Rattle.tabled_draw.specs.Lines.{drawn_line}
 use Rattle.tabled_draw.specs.Owners.{owner}
 use Rattle.std.proofs.lemmas.List.Concat.{flat_map-append}
@@ -29,10 +29,10 @@ top-below plan r i low =
 -- ---- what is left of the texts, line by line
 
 -- what begins above a row owns the place above, too
-owner-over : {rows columns : ℕ} {es : List Rectangle} (well : LieWell rows columns es) (i j : ℕ) (o : Rectangle) → owner rows columns es (i + 1) j ≡ Some o → o.first.row < i → owner rows columns es i j ≡ Some o
-owner-over well i j o e above = let a = owner-owns well e in a.all i j above (omega (arith, a.bottom)) a.left a.right
+owner-over : {rows columns : ℕ} {es : List Rectangle} (fit : AnchorsFit rows columns es) (i j : ℕ) (o : Rectangle) → owner rows columns es (i + 1) j ≡ Some o → o.first.row < i → owner rows columns es i j ≡ Some o
+owner-over fit i j o e above = let a = owner-owns fit e in a.all i j above (omega (arith, a.bottom)) a.left a.right
 
-module _ (plan : Plan) (well : LieWell plan.grid.rows plan.grid.columns plan.merged) where
+module _ (plan : Plan) (fit : AnchorsFit plan.grid.rows plan.grid.columns plan.merged) where
   -- above the first row nothing is left
   pub left-outside : (n : ℕ) (texts : List (List ℕ)) → AreLeft plan 0 n texts
   left-outside n texts = record { each = λ j o less e. (let s = owner-some e in absurd (omega (arith, s.is_row))) }
@@ -49,7 +49,7 @@ module _ (plan : Plan) (well : LieWell plan.grid.rows plan.grid.columns plan.mer
       lines-left : (j : ℕ) (o : Rectangle) → j < plan.grid.columns → owner_at plan i (j + 1) ≡ Some o → o.first.col ≡ j → (y : ℕ) → get_or (lines_shown (get_or new j [])) y [] ≡ get_or (lines_shown (text_of_cell plan.grid o.first)) (n + 1 - top plan o.first.row - line_height plan o.first.row + y) []
       lines-left j o less e begin y =
           let cut : get_or new j [] ≡ after_line (get_or old j []) = is j less ∙ cond-false _ _ _ (differ-self (owner_at plan i (j + 1))) ∙ cond-true _ _ _ (ap (begins j) e ∙ eq-eqb o.first.col j begin) in
-          let row = (owner-owns well e).top in
+          let row = (owner-owns fit e).top in
           let over : top plan o.first.row + line_height plan o.first.row ≤ n = upper (cases_lt o.first.row (i - 1)) row in
           ap (λ t. get_or (lines_shown t) y []) cut ∙ cut-next (get_or old j []) (text_of_cell plan.grid o.first) (n - top plan o.first.row - line_height plan o.first.row) y (was.each j o less e begin) ∙ ap (λ k. get_or (lines_shown (text_of_cell plan.grid o.first)) k []) (omega (arith, over))
         where
@@ -65,7 +65,7 @@ module _ (plan : Plan) (well : LieWell plan.grid.rows plan.grid.columns plan.mer
     where
       lines-left : (j : ℕ) (o : Rectangle) → j < plan.grid.columns → owner_at plan (i + 1) (j + 1) ≡ Some o → o.first.col ≡ j → (y : ℕ) → (o.first.row < i) ⊎ (i ≤ o.first.row) → get_or (lines_shown (get_or new j [])) y [] ≡ get_or (lines_shown (text_of_cell plan.grid o.first)) (n + size_if drawn - top plan o.first.row - line_height plan o.first.row + y) []
       lines-left j o less e begin y (inr here) =
-          let row : o.first.row ≡ i = omega (arith, here, (owner-owns well e).top) in
+          let row : o.first.row ≡ i = omega (arith, here, (owner-owns fit e).top) in
           let same : o.first ≡ place i j = ap₂ place row begin in
           let text : get_or new j [] ≡ text_of_cell plan.grid o.first = is_new j less ∙ ap (λ (x : Option Rectangle). begun plan.grid x (place i j) (get_or cut j [])) e ∙ cond-true _ _ _ (ap (λ q. same_place q (place i j)) same ∙ same_place-self (place i j)) ∙ ap (text_of_cell plan.grid) (sym same) in
           let first : n + size_if drawn - top plan o.first.row - line_height plan o.first.row + y ≡ y = (let t : top plan o.first.row ≡ top plan i = ap (top plan) row in let b : line_height plan o.first.row ≡ size_if drawn = ap (line_height plan) row ∙ size in omega (arith, t, b, is_n)) in
@@ -82,7 +82,7 @@ module _ (plan : Plan) (well : LieWell plan.grid.rows plan.grid.columns plan.mer
       ]
         where
           over : owner_at plan i (j + 1) ≡ Some o
-          over = owner-over well i (j + 1) o e above
+          over = owner-over fit i (j + 1) o e above
 
           one : differ (owner_at plan i (j + 1)) (owner_at plan (i + 1) (j + 1)) ≡ false
           one = ap₂ differ over e ∙ differ-self (Some o)
@@ -96,7 +96,7 @@ module _ (plan : Plan) (well : LieWell plan.grid.rows plan.grid.columns plan.mer
 -- ---- lines as they are drawn
 
 pub end-inside : (m : SpanMap) (rows columns i : ℕ) (row : List (Option Rectangle)) → Fits m rows columns → IsOwnerRow rows columns (rectangles m) i row → EndInside columns row
-end-inside m rows columns i row fits is = record { each = λ j o less e begin. (let there = owner-owns (fits-well m rows columns fits) (sym (is.each (j + 1) (omega (arith, less))) ∙ e) in omega (arith, there.lies.1.right, begin)) }
+end-inside m rows columns i row fits is = record { each = λ j o less e begin. (let there = owner-owns (anchors-fit m rows columns fits) (sym (is.each (j + 1) (omega (arith, less))) ∙ e) in omega (arith, there.lies.1.right, begin)) }
 
 -- ---- lines with a newline after each
 
@@ -138,7 +138,7 @@ module _ (sheet : Sheet) (g : Grid (List ℕ)) (m : SpanMap) (fits : Fits m g.ro
       ]
         where
           there : Owns g.rows g.columns (rectangles m) u (j + 1) o
-          there = owner-owns (fits-well m g.rows g.columns fits) (sym e)
+          there = owner-owns (anchors-fit m g.rows g.columns fits) (sym e)
 
           line : List ℕ
           line = get_or (lines_shown (text_of_cell g o.first)) (n - top plan o.first.row - line_height plan o.first.row) []

@@ -7,7 +7,7 @@ use Rattle.tabled_draw.proofs.Widths.{columns-nil}
 use Rattle.tabled_draw.proofs.Shares.{Larger, get-grown, grown-enough, grown-larger, larger-trans, room-larger, room-one, room-span, room-without, share-low, share-outside, span, span-larger, start-more}
 use Rattle.tabled_draw.proofs.Before.{after-next, before-from, before-next, before-none, before-row, cases_before, after-from, here-next}
 use Rattle.tabled_draw.proofs.Owned.{member-at}
-use Rattle.tabled_grid.proofs.Owners.{LieWell, owned, fits-well}
+use Rattle.tabled_grid.proofs.Owners.{AnchorsFit, anchor-lies, anchors-fit, owned}
 use Rattle.tabled_grid.proofs.Owners.Owned.{alone, held}
 use Rattle.tabled_draw.specs.Sizes.{sizes}
 use Rattle.tabled_grid.proofs.PiecePlaces.{place_is}
@@ -98,24 +98,24 @@ module _ (axis : Axis) (style : Style) (g : Grid (List ℕ)) where
     from-order e m = ordered-member (λ (x : Rectangle). begin x) (count_along axis g) es e (ordered-member (λ (x : Rectangle). count x) (count_along axis g + 1) (by_number (λ (x : Rectangle). begin x) (count_along axis g) es) e m)
 
     -- and the other way round, where it lies in the table
-    in-order : LieWell g.rows g.columns es → (e : Rectangle) → Member e es → Member e (in_order axis g es)
-    in-order well e m =
-        let here = lies-along axis g e (well.lies e m).0 (well.lies e m).1 in
+    in-order : AnchorsFit g.rows g.columns es → (e : Rectangle) → Member e es → Member e (in_order axis g es)
+    in-order fit e m =
+        let here = lies-along axis g e (anchor-lies fit e m).0 (anchor-lies fit e m).1 in
         member-ordered (λ (x : Rectangle). count x) (count_along axis g + 1) (by_number (λ (x : Rectangle). begin x) (count_along axis g) es) e (member-ordered (λ (x : Rectangle). begin x) (count_along axis g) es e m (omega (arith, here.0, here.1))) (omega (arith, here.0, here.1))
 
-    lie-among : LieWell g.rows g.columns es → LieAmong (own_sizes axis g es) (in_order axis g es)
+    lie-among : AnchorsFit g.rows g.columns es → LieAmong (own_sizes axis g es) (in_order axis g es)
     unfolding LieAmong
-    lie-among well e m = let here = lies-along axis g e (well.lies e (from-order e m)).0 (well.lies e (from-order e m)).1 in (here.0, omega (arith, here.1, length-own axis g es))
+    lie-among fit e m = let here = lies-along axis g e (anchor-lies fit e (from-order e m)).0 (anchor-lies fit e (from-order e m)).1 in (here.0, omega (arith, here.1, length-own axis g es))
 
     pub start-next : (k : ℕ) → start_of axis drawn (sizes axis style g es) (k + 1) ≡ start_of axis drawn (sizes axis style g es) k + (drawn k + get_or (sizes axis style g es) k 0 + pad axis)
     start-next k = start-more axis drawn (sizes axis style g es) k
 
     -- each owner has as much room as its text asks
-    pub room-enough : LieWell g.rows g.columns es → (p : Position) → p.row < g.rows → p.col < g.columns → asks axis (text_of_cell g (owner_in es p).first) ≤ room axis drawn (sizes axis style g es) (line_of axis (owner_in es p).first) (lines_in axis (owner_in es p).size)
+    pub room-enough : AnchorsFit g.rows g.columns es → (p : Position) → p.row < g.rows → p.col < g.columns → asks axis (text_of_cell g (owner_in es p).first) ≤ room axis drawn (sizes axis style g es) (line_of axis (owner_in es p).first) (lines_in axis (owner_in es p).size)
     unfolding sizes own-size
-    room-enough well p low far = elim (owned es p) [
+    room-enough fit p low far = elim (owned es p) [
       | held m h ↦
-          let enough : need o ≤ span axis drawn (sizes axis style g es) (begin o) (count o) - drawn (begin o) - pad axis = fold-enough (in_order axis g es) base (lie-among well) o (in-order well o m) in
+          let enough : need o ≤ span axis drawn (sizes axis style g es) (begin o) (count o) - drawn (begin o) - pad axis = fold-enough (in_order axis g es) base (lie-among fit) o (in-order fit o m) in
           let r : room_for (sizes axis style g es) o ≡ span axis drawn (sizes axis style g es) (begin o) (count o) - drawn (begin o) - pad axis = room-span axis drawn (sizes axis style g es) (begin o) (count o) in
           omega arith
       | alone is never ↦
@@ -210,18 +210,18 @@ module _ (axis : Axis) (style : Style) (g : Grid (List ℕ)) where
           fold-low xs (grow s e) much (larger-trans (own_sizes axis g es) s (grow s e) larger (larger-for s e)) (lie-later s e xs all) (λ d i. enough d (inr i))
           (grown-low s e much larger here.0 here.1 (enough e (inl refl)) low)
 
-      low-sizes : LieWell g.rows g.columns es → get_or (sizes axis style g es) k 0 ≤ most_asked axis style g es k
+      low-sizes : AnchorsFit g.rows g.columns es → get_or (sizes axis style g es) k 0 ≤ most_asked axis style g es k
       unfolding sizes most
-      low-sizes well =
+      low-sizes fit =
           let own = get_or (own_sizes axis g es) k 0 in
-          fold-low (in_order axis g es) (own_sizes axis g es) (most_asked axis style g es k) (record { long = refl; each = λ i. omega arith }) (lie-among well)
+          fold-low (in_order axis g es) (own_sizes axis g es) (most_asked axis style g es k) (record { long = refl; each = λ i. omega arith }) (lie-among fit)
           (λ e m. most-each es own e (from-order e m)) (most-first es own)
 
 pub row-line : (style : Style) (g : Grid (List ℕ)) (es : List Rectangle) (i : ℕ) → i < g.rows → 1 ≤ get_or (sizes Rows style g es) i 0
 row-line style g es i h = least-size Rows style g es i h
 
-pub no-larger : (plan : Plan) (aligns : List Alignment) → LieWell plan.grid.rows plan.grid.columns plan.merged → AreNoLargerThanAsked plan aligns
-no-larger plan aligns well axis k = low-sizes axis plan.style plan.grid plan.merged k well
+pub no-larger : (plan : Plan) (aligns : List Alignment) → AnchorsFit plan.grid.rows plan.grid.columns plan.merged → AreNoLargerThanAsked plan aligns
+no-larger plan aligns fit axis k = low-sizes axis plan.style plan.grid plan.merged k fit
 
 -- a line of a text is no wider than the text
 most-least : (lines : List (List ℕ)) (a : ℕ) → a ≤ fold (λ most line. max most (text_width line)) a lines
@@ -244,7 +244,7 @@ pub order-is : (axis : Axis) (g : Grid (List ℕ)) (m : SpanMap) (xs order : Lis
     → ((k n : ℕ) → AllByRecursion (λ (e : Rectangle). (lines_in axis e.size < k) × (line_of axis e.first < n)) xs → order ≡ by_number (λ (e : Rectangle). lines_in axis e.size) k (by_number (λ (e : Rectangle). line_of axis e.first) n xs))
     → order ≡ in_order axis g (rectangles m)
 order-is axis g m xs order fits is put =
-    put (count_along axis g + 1) (count_along axis g) (rw is (all-of (λ (e : Rectangle). (lines_in axis e.size < count_along axis g + 1) × (line_of axis e.first < count_along axis g)) (rectangles m) (λ e among. below (let lies = (fits-well m g.rows g.columns fits).lies e among in lies-along axis g e lies.0 lies.1))))
+    put (count_along axis g + 1) (count_along axis g) (rw is (all-of (λ (e : Rectangle). (lines_in axis e.size < count_along axis g + 1) × (line_of axis e.first < count_along axis g)) (rectangles m) (λ e among. below (let lies = anchor-lies (anchors-fit m g.rows g.columns fits) e among in lies-along axis g e lies.0 lies.1))))
     ∙ ap (in_order axis g) is
   where
     below : {n at : ℕ} → (1 ≤ n) × (at + n ≤ count_along axis g) → (n < count_along axis g + 1) × (at < count_along axis g)
@@ -254,7 +254,7 @@ order-is axis g m xs order fits is put =
 pub ordered-at : (axis : Axis) (g : Grid (List ℕ)) (m : SpanMap) (rows columns : ℕ) → Fits m rows columns → (xs : List Rectangle) → xs ≡ in_order axis g (rectangles m) → (k : ℕ) (e : Rectangle) → k < length xs → e ≡ get_or xs k e → HasArea e × LiesInside rows columns e
 ordered-at axis g m rows columns fits xs is k e h at =
     let among : Member e (in_order axis g (rectangles m)) = subst (λ (ys : List Rectangle). Member e ys) is (subst (λ (x : Rectangle). Member x xs) (sym at) (member-at xs k e h)) in
-    (fits-well m rows columns fits).lies e (from-order axis ASCII g (rectangles m) e among)
+    anchor-lies (anchors-fit m rows columns fits) e (from-order axis ASCII g (rectangles m) e among)
 
 pub grown-more : (axis : Axis) (style : Style) (g : Grid (List ℕ)) (base : List ℕ) (k : ℕ) (e : Rectangle) (xs : List Rectangle) → k < length xs → e ≡ get_or xs k e → (s : List ℕ) (text : List ℕ) → cell_at g e.first ≡ Some text → (n : ℕ) (new : List ℕ)
     → s ≡ fold (grown_for axis style g) base (take k xs) → n ≡ asks axis text → new ≡ grown_sizes axis (border axis style g) s (line_of axis e.first) (lines_in axis e.size) n

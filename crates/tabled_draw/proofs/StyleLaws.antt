@@ -2,7 +2,7 @@
 use Rattle.tabled_draw.proofs.Common.{Alignment, Arms, List, Plan, Style, [], are_none, arith, cond, cond-false, cond-true, corner, meeting, nat_tests, sym, ℕ, ◌∙◌, ◌∷◌, ◌≡◌}
 use Rattle.tabled_draw.proofs.Arms.{all_arms, equal-arms}
 use Rattle.tabled_draw.proofs.LawBorders.{are-met, stand-between}
-use Rattle.tabled_grid.proofs.Owners.{LieWell}
+use Rattle.tabled_grid.proofs.Owners.{AnchorsFit}
 use Rattle.tabled_draw.specs.Borders.{are_one}
 use Rattle.tabled_draw.specs.BoxCharacters.{arms_of, horizontal, vertical}
 use Rattle.tabled_draw.specs.StyleLaws.{AreDrawn, HasArmsAtCorners, HasEnds, IsBox, IsMadeOf, all_lines, inner_lines, line_of_header, no_lines, outer_lines, outer_lines_and_header}
@@ -51,9 +51,9 @@ is-made level upright corner_of style is_level is_upright corners = record {
 
 -- ---- corners in pictures
 
-pub arms-at-corners : (plan : Plan) (aligns : List Alignment) → LieWell plan.grid.rows plan.grid.columns plan.merged → HasArmsAtCorners plan aligns
-arms-at-corners plan aligns well characters box fine some i j low far drawn_row drawn_column apart = record {
+pub arms-at-corners : (plan : Plan) (aligns : List Alignment) → AnchorsFit plan.grid.rows plan.grid.columns plan.merged → HasArmsAtCorners plan aligns
+arms-at-corners plan aligns fit characters box fine some i j low far drawn_row drawn_column apart = record {
   character = corner plan.style (meeting plan.grid plan.merged i j);
-  has_arms = box.corners (meeting plan.grid plan.merged i j) ((are-met plan aligns well some).none_alone i j low far);
-  stands = (stand-between plan aligns well some fine).around i j low far drawn_row drawn_column apart;
+  has_arms = box.corners (meeting plan.grid plan.merged i j) ((are-met plan aligns fit some).none_alone i j low far);
+  stands = (stand-between plan aligns fit some fine).around i j low far drawn_row drawn_column apart;
 }

@@ -3,7 +3,7 @@ use Rattle.tabled_draw.proofs.Common.{ASCII, AreUnmerged, Bool, Fits, Grid, IsOw
 use Rattle.tabled_draw.proofs.Arms.{marked-corner, same-arms}
 use Rattle.tabled_draw.proofs.Each.{each-same}
 use Rattle.tabled_draw.proofs.LawBorders.{arms-meet}
-use Rattle.tabled_grid.proofs.Owners.{fits-well}
+use Rattle.tabled_grid.proofs.Owners.{anchors-fit}
 use Rattle.tabled_draw.specs.Borders.{Arms}
 use Rattle.tabled_draw.specs.Lines.{drawn_line}
 use Rattle.tabled_draw.specs.Owners.{owner}
@@ -37,7 +37,7 @@ unmerged-rows g m i rows columns above below same_rows same_columns fits high wi
         let first : arms (get_or above j None) (get_or above (j + 1) None) (get_or below j None) (get_or below (j + 1) None) ≡ arms (owner g.rows g.columns (rectangles m) i j) (owner g.rows g.columns (rectangles m) i (j + 1)) (owner g.rows g.columns (rectangles m) (i + 1) j) (owner g.rows g.columns (rectangles m) (i + 1) (j + 1)) =
         rw (over.each j (omega (arith, less)), over.each (j + 1) (omega (arith, less)), under.each j (omega (arith, less)), under.each (j + 1) (omega (arith, less))) refl in
         first
-        ∙ arms-meet (plan_of ASCII g (rectangles m)) [] (fits-well m g.rows g.columns fits) (record { row = high; col = wide }) i j within less
+        ∙ arms-meet (plan_of ASCII g (rectangles m)) [] (anchors-fit m g.rows g.columns fits) (record { row = high; col = wide }) i j within less
         ∙ ap (λ es. meeting g es i j) none
         ∙ same-arms _ _ _ _ _ _ _ _ (with-true (nat_lt 0 i)) (with-true (nat_lt j g.columns) ∙ ap (nat_lt j) (sym same_columns)) (with-true (nat_lt i g.rows) ∙ ap (nat_lt i) (sym same_rows)) (with-true (nat_lt 0 j))
 

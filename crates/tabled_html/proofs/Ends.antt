@@ -3,7 +3,7 @@ use Rattle.std.proofs.Common.{nat_lt}
 use Rattle.std.proofs.lemmas.Bool.Decides.{nat_tests}
 use Rattle.tabled_grid.proofs.Common.{◌+◌, ◌&&◌, ◌<◌, ◌∙◌, ◌≡◌, ◌≤◌, ◌⊎◌, Bool, Fits, In, List, SpanMap, ap, ap₂, arith, cases_lt, cond, false, false_from_ne_true, get_or, inl, inr, is_hidden, le-ltb, length, lt-ltb, nat_le, place, rectangle, rectangles, refl, size_at, subst, sym, true, ℕ}
 use Rattle.tabled_grid.proofs.Members.{Member, get-member}
-use Rattle.tabled_grid.proofs.Owners.{LieWell, fits-well, member-owner, owner-begins, owner-holds, owner-lies, owner-self, owner-shared}
+use Rattle.tabled_grid.proofs.Owners.{AnchorsFit, anchors-fit, member-owner, owner-begins, owner-holds, owner-lies, owner-self, owner-shared}
 use Rattle.tabled_grid.proofs.SpanMaps.{hidden_by}
 use Rattle.tabled_grid.specs.Grid.{IsInside}
 use Rattle.tabled_grid.specs.Owners.{owner_in}
@@ -31,8 +31,8 @@ module _ {v w : Written} (viewed : v ≡ w) (fits : Fits v.merged v.texts.rows v
   abbrev m : SpanMap
   m = w.merged
 
-  well : LieWell w.texts.rows w.texts.columns (rectangles m)
-  well = subst (λ (w : Written). LieWell w.texts.rows w.texts.columns (rectangles w.merged)) viewed (fits-well v.merged v.texts.rows v.texts.columns fits)
+  fit : AnchorsFit w.texts.rows w.texts.columns (rectangles m)
+  fit = subst (λ (w : Written). AnchorsFit w.texts.rows w.texts.columns (rectangles w.merged)) viewed (anchors-fit v.merged v.texts.rows v.texts.columns fits)
 
   abbrev own : ℕ → ℕ → Rectangle
   own y x = owner_in (rectangles m) (place y x)
@@ -42,14 +42,14 @@ module _ {v w : Written} (viewed : v ≡ w) (fits : Fits v.merged v.texts.rows v
   hidden-apart p hidden same =
       let other = hidden_by m p hidden in
       let member : Member (rectangle other.anchor other.size) (rectangles m) = get-member m (rectangle other.anchor other.size) other.has in
-      other.other (sym (ap (λ (o : Rectangle). o.first) (member-owner well (rectangle other.anchor other.size) p member other.holds)) ∙ same)
+      other.other (sym (ap (λ (o : Rectangle). o.first) (member-owner fit (rectangle other.anchor other.size) p member other.holds)) ∙ same)
 
   -- an owner is that of the place where it begins
   own-first : (y x : ℕ) → y < w.texts.rows → x < w.texts.columns → (p : Position) → (own y x).first ≡ p → owner_in (rectangles m) p ≡ own y x
   own-first y x k h p same =
-      let lies = owner-lies well (place y x) k h in
+      let lies = owner-lies fit (place y x) k h in
       let at : In (own y x) (own y x).first = record { top = omega arith; bottom = omega (arith, lies.0.height); left = omega arith; right = omega (arith, lies.0.width) } in
-      sym (ap (owner_in (rectangles m)) same) ∙ owner-shared well (place y x) (own y x).first at
+      sym (ap (owner_in (rectangles m)) same) ∙ owner-shared fit (place y x) (own y x).first at
 
   -- what is hidden is what began before
   begun-hidden : (i j : ℕ) → begun (own_area m) i j j i ≡ is_hidden m (place i j)
@@ -86,7 +86,7 @@ module _ {v w : Written} (viewed : v ≡ w) (fits : Fits v.merged v.texts.rows v
       is = ap (rectangle (place i j)) size-is ∙ owner-begins m (place i j) (owner-self (rectangles m) (place i j) (seen-below past))
 
       lies : HasArea (own i j) × LiesInside w.texts.rows w.texts.columns (own i j)
-      lies = owner-lies well (place i j) inside.row inside.col
+      lies = owner-lies fit (place i j) inside.row inside.col
 
       pub across : j + size.width ≤ w.texts.columns
       across = omega (arith, lies.1.right, ap (λ (o : Rectangle). o.first.col + o.size.width) is)
@@ -99,7 +99,7 @@ module _ {v w : Written} (viewed : v ≡ w) (fits : Fits v.merged v.texts.rows v
 
       -- it owns the places in it, and holds no other
       owned : (x y : ℕ) → j ≤ x → x < j + size.width → i ≤ y → y < i + size.height → own y x ≡ own i j
-      owned x y left right top bottom = owner-shared well (place i j) (place y x) (subst (λ (o : Rectangle). In o (place y x)) is (record { top = top; bottom = bottom; left = left; right = right }))
+      owned x y left right top bottom = owner-shared fit (place i j) (place y x) (subst (λ (o : Rectangle). In o (place y x)) is (record { top = top; bottom = bottom; left = left; right = right }))
 
       first-is : (own i j).first ≡ place i j
       first-is = sym (ap (λ (o : Rectangle). o.first) is)
@@ -114,7 +114,7 @@ module _ {v w : Written} (viewed : v ≡ w) (fits : Fits v.merged v.texts.rows v
           not-begun past before =
               let holds = owner-holds (rectangles m) (place y x) in
               let up = before-up i (j + 1) (own y x).first.col (own y x).first.row before in
-              let same = owner-shared well (place y x) (place i x) (record { top = up; bottom = omega (arith, holds.bottom, more); left = holds.left; right = holds.right }) in
+              let same = owner-shared fit (place y x) (place i x) (record { top = up; bottom = omega (arith, holds.bottom, more); left = holds.left; right = holds.right }) in
               let in_it = in-it x y (sym same ∙ owned x i left right (omega arith) (omega (arith, high))) in
               omega (arith, in_it.bottom, past)
 

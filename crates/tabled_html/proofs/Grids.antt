@@ -15,7 +15,7 @@ use Rattle.tabled_grid.specs.declared.config.size.Size.{Size}
 use Rattle.tabled_grid.specs.declared.records.axis.Axis.TheVariants.{Rows}
 use Rattle.tabled_html.proofs.Ends.{hidden-apart}
 use Rattle.tabled_html.proofs.Attributes.{cell-apart, cell-plain, cell-spans, class-apart, class-plain, colspan-is, rowspan-is}
-use Rattle.tabled_grid.proofs.Owners.{LieWell, fits-well, owned, owner-begins, owner-holds, owner-lies, owner-self, owner-shared}
+use Rattle.tabled_grid.proofs.Owners.{AnchorsFit, anchors-fit, owned, owner-begins, owner-holds, owner-lies, owner-self, owner-shared}
 use Rattle.tabled_grid.proofs.Owners.Owned.{alone, held}
 use Rattle.tabled_html.proofs.Within.{written-fits, written-within}
 use Rattle.tabled_html.specs.Elements.{begun_at, element, element_at, fragment, group, groups_of, has_head, row_of, rows_of, table, text_of_cell}
@@ -44,8 +44,8 @@ module _ (g : Grid (List ℕ)) (m : SpanMap) (look : Look) (fits : Fits m g.rows
   abbrev w : Written
   w = written_as g m look
 
-  well : LieWell g.rows g.columns (rectangles m)
-  well = fits-well m g.rows g.columns fits
+  fit : AnchorsFit g.rows g.columns (rectangles m)
+  fit = anchors-fit m g.rows g.columns fits
 
   module _ (limits : AreWithinLimits m) where
     narrow : (p : Position) → (owner_in (rectangles m) p).size.width ≤ 1000
@@ -63,11 +63,11 @@ module _ (g : Grid (List ℕ)) (m : SpanMap) (look : Look) (fits : Fits m g.rows
     tiles : Tiles g.columns g.rows (own_area m) (element_of g look)
     tiles = record {
       holds = λ x y h k. (let i = owner-holds (rectangles m) (place y x) in record { left = i.left; right = i.right; top = i.top; bottom = i.bottom });
-      shared = λ x y u v h k h' k' i. ap area_of (owner-shared well (place y x) (place v u) (record { top = i.top; bottom = i.bottom; left = i.left; right = i.right }));
-      across = λ x y h k. (owner-lies well (place y x) k h).1.right;
-      down = λ x y h k. (owner-lies well (place y x) k h).1.bottom;
-      wide = λ x y h k. colspan-is _ _ _ (text_of_cell g (place (own_area m x y).y (own_area m x y).x)) (owner-lies well (place y x) k h).0.width (narrow (place y x)) (low (place y x));
-      high = λ x y h k. rowspan-is _ _ _ (text_of_cell g (place (own_area m x y).y (own_area m x y).x)) (owner-lies well (place y x) k h).0.height (narrow (place y x)) (low (place y x));
+      shared = λ x y u v h k h' k' i. ap area_of (owner-shared fit (place y x) (place v u) (record { top = i.top; bottom = i.bottom; left = i.left; right = i.right }));
+      across = λ x y h k. (owner-lies fit (place y x) k h).1.right;
+      down = λ x y h k. (owner-lies fit (place y x) k h).1.bottom;
+      wide = λ x y h k. colspan-is _ _ _ (text_of_cell g (place (own_area m x y).y (own_area m x y).x)) (owner-lies fit (place y x) k h).0.width (narrow (place y x)) (low (place y x));
+      high = λ x y h k. rowspan-is _ _ _ (text_of_cell g (place (own_area m x y).y (own_area m x y).x)) (owner-lies fit (place y x) k h).0.height (narrow (place y x)) (low (place y x));
     }
 
   -- ---- the written rows

@@ -1,6 +1,6 @@
 use Rattle.tabled_draw.proofs.Common.{AreUnmerged, Draws, IsOwnerRow, ap, arith, border_line, bytes_in, drawn_border, length, map_grid, plan_on, rectangles, refl, subst, sym, top, with_newlines, ◌+◌, ◌∙◌, ◌≡◌}
 use Rattle.tabled_draw.proofs.Owned.{count-none, owner-below, owner-top, row-outside}
-use Rattle.tabled_grid.proofs.Owners.{fits-well}
+use Rattle.tabled_grid.proofs.Owners.{anchors-fit}
 use Rattle.tabled_draw.proofs.Rows.{all-rows, border-text, end-inside, left-outside, more-rows, rest-of}
 use Rattle.tabled_held.proofs.Pens.{draws-as, draws-failed, draws-none, draws-then}
 use Rattle.tabled_draw.proofs.Unmerged.{none-left, unmerged-rows}
@@ -17,7 +17,7 @@ loop-i-init g c =
         here = c.requires.room.here;
         next = c.requires.next ∙ sym (count-none (rectangles m));
         long = c.requires.room.long;
-        left = left-outside (plan_on c.args.sheet.now t m) (fits-well m _ _ c.requires.sheet.fits) (top (plan_on c.args.sheet.now t m) 0) (bytes_in c.args.band.now.rests.items);
+        left = left-outside (plan_on c.args.sheet.now t m) (anchors-fit m _ _ c.requires.sheet.fits) (top (plan_on c.args.sheet.now t m) 0) (bytes_in c.args.band.now.rests.items);
       };
       drawn = draws-none;
     }

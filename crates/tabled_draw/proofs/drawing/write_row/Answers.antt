@@ -1,6 +1,6 @@
 use Rattle.tabled_draw.proofs.Common.{AreLeft, AreUnmerged, IsOwnerRow, None, Rows, [], add-zero, add_assoc, ap, ap₂, arith, begun, bytes_in, cond, get_or, heights, is_drawn, left_of, length, line_height, map_grid, place, plan_on, rectangles, refl, size_if, subst, sym, top, true, ◌+◌, ◌-◌, ◌<◌, ◌∙◌, ◌≡◌, ◌≤◌}
 use Rattle.tabled_draw.proofs.Sizes.{start-next}
-use Rattle.tabled_grid.proofs.Owners.{fits-well}
+use Rattle.tabled_grid.proofs.Owners.{anchors-fit}
 use Rattle.tabled_draw.proofs.Rows.{all-below, border-text, end-inside, first-below, in-row, left-in_row, left-next_row, more-below}
 use Rattle.tabled_held.proofs.Pens.{draws-as, draws-then}
 use Rattle.tabled_draw.specs.Lines.{drawn_line}
@@ -43,7 +43,7 @@ loop-y-init g c =
       here = refl;
       next = refl;
       long = c.begin.ensures.long;
-      left = subst (λ n. AreLeft plan (i + 1) n new) (ap (λ k. top plan i + k) (sym size) ∙ sym (add-zero (top plan i + line_height plan i))) (left-next_row plan (fits-well m _ _ c.requires.sheet.fits) drawn i (top plan i) old cut new c.requires.row refl size c.requires.band.left
+      left = subst (λ n. AreLeft plan (i + 1) n new) (ap (λ k. top plan i + k) (sym size) ∙ sym (add-zero (top plan i + line_height plan i))) (left-next_row plan (anchors-fit m _ _ c.requires.sheet.fits) drawn i (top plan i) old cut new c.requires.row refl size c.requires.band.left
           (λ j less. c.write_border.ensures.rests j (omega (arith, less, c.requires.band.long)) ∙ ap₂ (λ a b. cond drawn (left_of j a b (get_or old j [])) (get_or old j [])) (over.each (j + 1) (omega (arith, less))) (under.each (j + 1) (omega (arith, less))))
           (λ j less. c.begin.ensures.begun j less ∙ ap (λ a. begun t a (place i j) (get_or cut j [])) (again.each (j + 1) (omega (arith, less)))));
       drawn = draws-as
@@ -73,7 +73,7 @@ loop-y-preserved g c =
       here = c.loop-y.invariant.here;
       next = c.loop-y.invariant.next;
       long = c.write_row_line.ensures.long ∙ c.loop-y.invariant.long;
-      left = subst (λ k. AreLeft plan (i + 1) k new) (add_assoc (top plan i + line_height plan i) y 1) (left-in_row plan (fits-well m _ _ c.requires.sheet.fits) (i + 1) n old new (omega arith) (omega (arith, within)) low c.loop-y.invariant.left
+      left = subst (λ k. AreLeft plan (i + 1) k new) (add_assoc (top plan i + line_height plan i) y 1) (left-in_row plan (anchors-fit m _ _ c.requires.sheet.fits) (i + 1) n old new (omega arith) (omega (arith, within)) low c.loop-y.invariant.left
           (λ j less. c.write_row_line.ensures.rests j (omega (arith, less, c.loop-y.invariant.long)) ∙ ap₂ (λ a b. left_of j a b (get_or old j [])) (ap (λ row. get_or row (j + 1) None) c.deref-in-loop-y.ensures.value ∙ own.each (j + 1) (omega (arith, less))) (ap (λ row. get_or row (j + 1) None) c.deref-in-loop-y.ensures.value ∙ own.each (j + 1) (omega (arith, less)))));
       drawn = draws-as (more-below plan aligns i y) (draws-then c.loop-y.invariant.drawn (draws-as
           (ap (λ a. drawn_line sheet true a a (length c.loop-y.band.rests.items) old) c.deref-in-loop-y.ensures.value ∙ in-row sheet t m c.requires.sheet.fits c.requires.sheet.edges i n here old (length c.loop-y.band.rests.items) own c.loop-y.invariant.left c.loop-y.invariant.long)

@@ -6,4 +6,4 @@ use Rattle.tabled_draw.proofs.width.lines_take_the_width_of_their_picture.Goals 
 
 pub returns : goal.returns
 unfolding picture_width
-returns c = λ style aligns g m fine. (holds AreEquallyWide (λ plan aligns well fine. equally-wide plan aligns fine well)).of_drawn style aligns g m fine
+returns c = λ style aligns g m fine. (holds AreEquallyWide (λ plan aligns fit fine. equally-wide plan aligns fine fit)).of_drawn style aligns g m fine
