@@ -75,12 +75,13 @@ impl Held {
     pub(crate) fn push<W: Write>(&mut self, writer: &mut W, byte: u8)
         ensures { GrowsBy (W.contents writer.old) self.old (W.contents writer.new) self.new (byte ∷ []) }
     {
-        if self.len == ROOM {
-            self.send_after(writer, &[byte]);
-            return;
+        match self.room.get_mut(self.len) {
+            Some(place) => {
+                *place = byte;
+                self.len += 1;
+            }
+            None => self.send_after(writer, &[byte]),
         }
-        self.room[self.len] = byte;
-        self.len += 1;
     }
 
     /// Holds bytes, or sends them after what is held, if there is no room.
@@ -95,6 +96,32 @@ impl Held {
         let end = self.len + bytes.len();
         self.room[self.len..end].copy_from_slice(bytes);
         self.len = end;
+    }
+
+    /// Holds a byte and bytes behind it, or sends them after what is held, if there is no room.
+    // Together they are asked once whether they have room.
+    #[inline(always)]
+    pub(crate) fn write_behind<W: Write>(&mut self, writer: &mut W, byte: u8, bytes: &[u8])
+        ensures { GrowsBy (W.contents writer.old) self.old (W.contents writer.new) self.new (byte ∷ bytes.now) }
+    {
+        if ROOM - self.len <= bytes.len() {
+            self.send_each(writer, byte, bytes);
+            return;
+        }
+        let start = self.len + 1;
+        let end = start + bytes.len();
+        self.room[self.len] = byte;
+        self.room[start..end].copy_from_slice(bytes);
+        self.len = end;
+    }
+
+    /// Sends a byte, or holds it, and then bytes behind it.
+    #[inline(never)]
+    fn send_each<W: Write>(&mut self, writer: &mut W, byte: u8, bytes: &[u8])
+        ensures { GrowsBy (W.contents writer.old) self.old (W.contents writer.new) self.new (byte ∷ bytes.now) }
+    {
+        self.push(writer, byte);
+        self.write(writer, bytes);
     }
 
     /// Holds a number's digits, or sends them, one after another.

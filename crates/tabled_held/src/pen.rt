@@ -66,8 +66,7 @@ impl<'w, W: Write> Pen<'w, W> {
     pub fn send_behind(&mut self, byte: u8, bytes: &[u8])
         ensures { Sends W.contents self.old self.new (byte ∷ bytes.now) }
     {
-        self.send_byte(byte);
-        self.send(bytes);
+        self.held.write_behind(self.writer, byte, bytes);
     }
 
     /// Sends a number's digits.
