@@ -12,9 +12,7 @@ pub(crate) fn undoubled<'a>(bytes: &[u8], spare: &mut Spare<'a>) -> Result<&'a [
 {
     let room = spare.take(bytes.len())?;
     let len = undouble(bytes, room);
-    let (text, left) = room.split_at_mut(len);
-    spare.give_back(left);
-    Ok(text)
+    Ok(&room[..len])
 }
 
 /// Writes bytes with one quote for two to the front of a room, and says how many they are.

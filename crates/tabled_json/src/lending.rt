@@ -10,10 +10,8 @@ fn copied<'a>(bytes: &[u8], spare: &mut Spare<'a>) -> Result<&'a [u8], AllocErro
     ensures { IfOk result (λ found. found.now ≡ bytes.now) }
 {
     let room = spare.take(bytes.len())?;
-    let (text, left) = room.split_at_mut(bytes.len());
-    text.copy_from_slice(bytes);
-    spare.give_back(left);
-    Ok(text)
+    room.copy_from_slice(bytes);
+    Ok(room)
 }
 
 /// A text: lent by a source that begins with it, or else a copy.

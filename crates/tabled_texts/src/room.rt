@@ -1,6 +1,6 @@
 //! Memory for texts that are lent.
 
-ghost use Rattle.std.specs.Prelude.{◌≡◌, ◌≤◌, IfOk, IsOk, OnErr, OnOk, length};
+ghost use Rattle.std.specs.Prelude.{◌≡◌, ◌-◌, ◌≤◌, IfOk, IsOk, OnErr, OnOk, length};
 
 use std::alloc::{AllocError, Global};
 use std::marker::Model;
@@ -54,10 +54,12 @@ impl<'a> Model for Spare<'a> {
 }
 
 impl<'a> Spare<'a> {
-    /// All of a room.
+    /// All of a room: each byte is still to be asked for.
     ///
     /// Of this project.
-    pub fn new(room: &'a mut Room) -> Self {
+    pub fn new(room: &'a mut Room) -> Self
+        ensures { result ≡ 0 }
+    {
         Spare {
             bytes: &mut [],
             parts: room.parts.as_mut_slice(),
@@ -85,29 +87,20 @@ impl<'a> Spare<'a> {
         Ok(())
     }
 
-    /// Bytes for a text that is at most so long: as many, or more, of which those that it leaves are given back. Refused,
-    /// as many can be had as before.
+    /// So many bytes for a text. Refused, as many can be had as before.
     ///
     /// Of this project.
     pub fn take(&mut self, len: usize) -> Result<&'a mut [u8], AllocError>
-        ensures long { IfOk result (λ bytes. len ≤ length bytes.now) }
-        ensures taken { OnOk result (self.new ≡ 0) }
+        ensures long { IfOk result (λ bytes. length bytes.now ≡ len) }
 
-        // Where so many can be had, they are all that can be, and no memory is taken.
-        ensures all { IfOk result (λ bytes. len ≤ self.old → length bytes.now ≡ self.old) }
+        // Where so many can be had, no memory is taken.
+        ensures left { OnOk result (len ≤ self.old → self.new ≡ self.old - len) }
         ensures promised { len ≤ self.old → IsOk result }
         ensures refused { OnErr result (self.new ≡ self.old) }
     {
         self.hold(len)?;
-        Ok(mem::take(&mut self.bytes))
-    }
-
-    /// Takes back the bytes that a text left.
-    ///
-    /// Of this project.
-    pub fn give_back(&mut self, bytes: &'a mut [u8])
-        ensures { self.new ≡ length bytes.entry.now }
-    {
-        self.bytes = bytes;
+        let (bytes, rest) = mem::take(&mut self.bytes).split_at_mut(len);
+        self.bytes = rest;
+        Ok(bytes)
     }
 }

@@ -15,9 +15,7 @@ pub fn without_blanks<'a>(bytes: &[u8], spare: &mut Spare<'a>) -> Result<&'a [u8
         }
     }
     let end = len.min(room.len());
-    let (text, left) = room.split_at_mut(end);
-    spare.give_back(left);
-    Ok(text)
+    Ok(&room[..end])
 }
 
 /// A byte that isn't of ASCII.
@@ -26,7 +24,7 @@ struct NotAscii;
 
 /// Why a text was not read.
 #[derive(Clone, Copy, Debug, PartialEq, Eq)]
-pub enum ReadError {
+pub enum AsciiError {
     NotAscii { line: usize },
     OutOfMemory,
 }
@@ -40,14 +38,14 @@ fn ascii<'a>(bytes: &[u8], spare: &mut Spare<'a>) -> Result<&'a [u8], PartError<
 }
 
 /// A text of ASCII without blanks and without a byte order mark in front.
-pub fn read_ascii<'a>(bytes: &[u8], spare: &mut Spare<'a>) -> Result<&'a [u8], ReadError> {
+pub fn read_ascii<'a>(bytes: &[u8], spare: &mut Spare<'a>) -> Result<&'a [u8], AsciiError> {
     let text = behind_mark(bytes);
     match ascii(text, spare) {
         Ok(read) => Ok(read),
-        Err(PartError::Faulty(NotAscii, left)) => Err(ReadError::NotAscii {
+        Err(PartError::Faulty(NotAscii, left)) => Err(AsciiError::NotAscii {
             line: line_at(text, left),
         }),
-        Err(PartError::OutOfMemory) => Err(ReadError::OutOfMemory),
+        Err(PartError::OutOfMemory) => Err(AsciiError::OutOfMemory),
     }
 }
 

@@ -5,7 +5,7 @@ use std::test::Fail;
 use tabled_testing::{flat, nested};
 use tabled_texts::{Room, Spare};
 use tabled_uses::texts::{
-    ReadError, count_empty_of_records, count_empty_of_rows, read_ascii, without_blanks,
+    AsciiError, count_empty_of_records, count_empty_of_rows, read_ascii, without_blanks,
 };
 
 /// Whether bytes are those of a text.
@@ -48,7 +48,7 @@ fn reads(alloc: Global, bytes: &str, want: &str, line: usize) -> Result<bool, Al
     let mut room = Room::new(alloc)?;
     match read_ascii(bytes.as_bytes(), &mut Spare::new(&mut room)) {
         Ok(text) => Ok(is_text(text, want) && line == 0),
-        Err(error) => Ok(error == ReadError::NotAscii { line }),
+        Err(error) => Ok(error == AsciiError::NotAscii { line }),
     }
 }
 
