@@ -25,6 +25,8 @@ impl<'a> Words<'a> {
     ghost use Rattle.tabled_steps.specs.States.{after};
 
     /// What is after the verb of a step.
+    // A call of its own would hand the step over in memory.
+    #[inline(always)]
     pub(crate) fn step(&mut self, alloc: Global, verb: &str) -> Read<Step>
         ensures { Reads after (behind steps verb.now) self.old result self.new }
     {
@@ -59,6 +61,7 @@ impl<'a> Words<'a> {
         }
     }
 
+    #[inline(always)]
     fn set(&mut self, alloc: Global) -> Read<Step>
         ensures { Reads after reads_set self.old result self.new }
     {
@@ -67,6 +70,7 @@ impl<'a> Words<'a> {
         Ok(Step::Set(select, text))
     }
 
+    #[inline(always)]
     fn dup(&mut self, alloc: Global) -> Read<Step>
         ensures { Reads after reads_dup self.old result self.new }
     {
@@ -176,6 +180,7 @@ impl<'a> Words<'a> {
         Ok(Step::Rotate(rotate))
     }
 
+    #[inline(always)]
     fn reverse(&mut self) -> Read<Step>
         ensures { Reads after reads_reverse self.old result self.new }
     {
@@ -193,6 +198,7 @@ impl<'a> Words<'a> {
         Ok(Step::Extract(first_row, end_row, first_column, end_column))
     }
 
+    #[inline(always)]
     fn removal(&mut self, alloc: Global) -> Read<Step>
         ensures { Reads after (reads_one_of removals) self.old result self.new }
     {
@@ -217,6 +223,7 @@ impl<'a> Words<'a> {
         }
     }
 
+    #[inline(always)]
     fn concat(&mut self, alloc: Global) -> Read<Step>
         ensures { Reads after reads_concat self.old result self.new }
     {

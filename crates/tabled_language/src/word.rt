@@ -95,6 +95,10 @@ fn number_to(largest: usize, text: &str) -> Option<usize>
 pub(crate) fn number_of(text: &str) -> Option<usize>
     ensures { result ≡ number_of text.now }
 {
+    // Most numbers have one digit.
+    if let [digit @ b'0'..=b'9'] = text.as_bytes() {
+        return Some((*digit - b'0') as usize);
+    }
     number_to(LARGEST_NUMBER, text)
 }
 

@@ -47,12 +47,12 @@ pub(crate) fn write_numbers<W: Write>(pen: &mut Pen<'_, W>, name: &str, numbers:
 fn write_number<W: Write>(pen: &mut Pen<'_, W>, number: usize)
     ensures { Sends W.contents pen.old pen.new (9 ∷ decimal number) }
 {
-    pen.send_byte(b'\t');
     // Most numbers of merged cells are small.
     if number < 10 {
-        pen.send_byte(b'0' + number as u8);
+        pen.send_behind(b'\t', &[b'0' + number as u8]);
         return;
     }
+    pen.send_byte(b'\t');
     pen.send_number(number);
 }
 
