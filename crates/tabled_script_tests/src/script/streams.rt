@@ -25,13 +25,13 @@ impl Calls {
 
 /// A reader that gives some bytes a call.
 #[derive(Drop)]
-struct Source<'a> {
+struct SlowReader<'a> {
     bytes: &'a [u8],
     at_most: usize,
     calls: Calls,
 }
 
-impl Read for Source<'_> {
+impl Read for SlowReader<'_> {
     fn read(&mut self, buf: &mut [u8]) -> io::Result<usize> {
         self.calls.count()?;
         let len = self.at_most.min(buf.len()).min(self.bytes.len());
@@ -44,14 +44,14 @@ impl Read for Source<'_> {
 
 /// A writer that takes some bytes a call, and holds them until it is flushed. To flush it is a call, too.
 #[derive(Drop)]
-struct Sink {
+struct SlowWriter {
     at_most: usize,
     calls: Calls,
     held: Vec<u8>,
     flushed: Vec<u8>,
 }
 
-impl Write for Sink {
+impl Write for SlowWriter {
     fn write(&mut self, buf: &[u8]) -> io::Result<usize> {
         self.calls.count()?;
         let len = self.at_most.min(buf.len());
@@ -69,7 +69,7 @@ impl Write for Sink {
 
 /// Says whether a script that is read in such calls has its table, or status 4 and no output where one fails.
 fn is_read_or_fails(alloc: Global, at_most: usize, calls: Calls, fails: bool) -> bool {
-    let mut reader = Source {
+    let mut reader = SlowReader {
         bytes: b"row\ta\nset\tall\tx\n",
         at_most,
         calls,
@@ -113,7 +113,7 @@ fn is_flushed_or_fails(
     want: Option<(u8, &str)>,
 ) -> bool {
     let mut reader = script.as_bytes();
-    let mut writer = Sink {
+    let mut writer = SlowWriter {
         at_most,
         calls,
         held: Vec::new(alloc),
